@@ -1,0 +1,246 @@
+-- `pieces::scan` meets its contract. Assumes nothing.
+use Rattle.pieces.proofs.Masks.{scanned-le, scanned-past, scanned-low, scanned-high, scanned-met}
+use Rattle.pieces.proofs.Steps.{pow-half}
+use native.Mathlib.Omega.{arith}
+use Prim.Native.Nat.{ℕ, _<_}
+use borrow.Fn.Kinds.{In}
+use borrow.Fn.PlainCycle.{Measures, is, falls, and}
+use Rattle.pieces.proofs.scan.Reads as scan
+use Rattle.pieces.proofs.scan.Kinds as scan-kinds
+use Rattle.pieces.proofs.+scan.Lts-scan as scan-lts
+use Rattle.pieces.proofs.meet.Reads as meet-reads
+use Rattle.pieces.proofs.scan_four.Reads as scan-four-reads
+use Rattle.pieces.proofs.size_of.Reads as size-of-reads
+use Rattle.pieces.proofs.+scan.{statement}
+use Rattle.pieces.proofs.+scan.Tie.{close}
+
+abbrev μ-scan : Measures 2 scan-kinds.ps ℕ
+μ-scan κs a = a .1 .1 .1 .0
+
+abbrev scan-at : ℕ → In 2 scan-kinds.ps
+scan-at t = and 2 scan-kinds.ps (is 2 scan-kinds.ps μ-scan t) scan.Pre
+
+abbrev scan-below : ℕ → In 2 scan-kinds.ps
+scan-below t = and 2 scan-kinds.ps (falls 2 scan-kinds.ps _<_ μ-scan t) scan.Pre
+
+scan-returns : (t : ℕ) → scan-lts.Need-returns (
+  scan-four-reads.Asked,
+  scan-four-reads.Learnt,
+  scan-below t,
+  scan.Post,
+  size-of-reads.Asked,
+  size-of-reads.Learnt,
+  meet-reads.Asked,
+  meet-reads.Learnt,
+) (scan-at t) scan.Post
+scan-returns t c = scanned-past _ _ _ _ _ (c .if1 .taken)
+
+scan-scan-four-requires : (t : ℕ) → scan-lts.Need-scan-four-requires (
+  scan-four-reads.Asked,
+  scan-four-reads.Learnt,
+  scan-below t,
+  scan.Post,
+  size-of-reads.Asked,
+  size-of-reads.Learnt,
+  meet-reads.Asked,
+  meet-reads.Learnt,
+) (scan-at t) scan.Post
+scan-scan-four-requires t c κs = rw (← c .before .if2 .taken) (omega arith)
+
+scan-same-length : (t : ℕ) → scan-lts.Need-same-length (
+  scan-four-reads.Asked,
+  scan-four-reads.Learnt,
+  scan-below t,
+  scan.Post,
+  size-of-reads.Asked,
+  size-of-reads.Learnt,
+  meet-reads.Asked,
+  meet-reads.Learnt,
+) (scan-at t) scan.Post
+scan-same-length t c = omega arith
+
+scan-returns-2 : (t : ℕ) → scan-lts.Need-returns-2 (
+  scan-four-reads.Asked,
+  scan-four-reads.Learnt,
+  scan-below t,
+  scan.Post,
+  size-of-reads.Asked,
+  size-of-reads.Learnt,
+  meet-reads.Asked,
+  meet-reads.Learnt,
+) (scan-at t) scan.Post
+scan-returns-2 t c = rw (c .before .before .before .before .if2 .taken) (c .before .before .scan-four .ensures)
+
+scan-sub-h : (t : ℕ) → scan-lts.Need-sub-h (
+  scan-four-reads.Asked,
+  scan-four-reads.Learnt,
+  scan-below t,
+  scan.Post,
+  size-of-reads.Asked,
+  size-of-reads.Learnt,
+  meet-reads.Asked,
+  meet-reads.Learnt,
+) (scan-at t) scan.Post
+scan-sub-h t c = omega arith
+
+scan-scan-requires : (t : ℕ) → scan-lts.Need-scan-requires (
+  scan-four-reads.Asked,
+  scan-four-reads.Learnt,
+  scan-below t,
+  scan.Post,
+  size-of-reads.Asked,
+  size-of-reads.Learnt,
+  meet-reads.Asked,
+  meet-reads.Learnt,
+) (scan-at t) scan.Post
+scan-scan-requires t c κs = omega (arith, pow-half (c .before .before .before .before .before .args .l) (λ e. omega arith))
+
+scan-same-length-2 : (t : ℕ) → scan-lts.Need-same-length-2 (
+  scan-four-reads.Asked,
+  scan-four-reads.Learnt,
+  scan-below t,
+  scan.Post,
+  size-of-reads.Asked,
+  size-of-reads.Learnt,
+  meet-reads.Asked,
+  meet-reads.Learnt,
+) (scan-at t) scan.Post
+scan-same-length-2 t c = omega arith
+
+scan-returns-3 : (t : ℕ) → scan-lts.Need-returns-3 (
+  scan-four-reads.Asked,
+  scan-four-reads.Learnt,
+  scan-below t,
+  scan.Post,
+  size-of-reads.Asked,
+  size-of-reads.Learnt,
+  meet-reads.Asked,
+  meet-reads.Learnt,
+) (scan-at t) scan.Post
+scan-returns-3 t c = scanned-low _ (c .before .before .before .before .before .before .before .before .before .args .board .now) (λ i. omega (arith, c .before .before .before .before .before .before .before .before .shared-slice-known .given i)) _ _ _ _ _ (omega arith) (rw (c .if3 .taken) at (c .before .before .before .scan .ensures))
+
+scan-size-of-requires : (t : ℕ) → scan-lts.Need-size-of-requires (
+  scan-four-reads.Asked,
+  scan-four-reads.Learnt,
+  scan-below t,
+  scan.Post,
+  size-of-reads.Asked,
+  size-of-reads.Learnt,
+  meet-reads.Asked,
+  meet-reads.Learnt,
+) (scan-at t) scan.Post
+scan-size-of-requires t c κs = omega arith
+
+scan-add-scan : (t : ℕ) → scan-lts.Need-add-scan (
+  scan-four-reads.Asked,
+  scan-four-reads.Learnt,
+  scan-below t,
+  scan.Post,
+  size-of-reads.Asked,
+  size-of-reads.Learnt,
+  meet-reads.Asked,
+  meet-reads.Learnt,
+) (scan-at t) scan.Post
+scan-add-scan t c = omega (arith, pow-half (c .before .before .before .before .before .before .before .before .before .before .args .l) (λ e. omega arith))
+
+scan-scan-requires-2 : (t : ℕ) → scan-lts.Need-scan-requires-2 (
+  scan-four-reads.Asked,
+  scan-four-reads.Learnt,
+  scan-below t,
+  scan.Post,
+  size-of-reads.Asked,
+  size-of-reads.Learnt,
+  meet-reads.Asked,
+  meet-reads.Learnt,
+) (scan-at t) scan.Post
+scan-scan-requires-2 t c κs = omega (arith, pow-half (c .before .before .before .before .before .before .before .before .before .before .before .args .l) (λ e. omega arith))
+
+scan-same-length-3 : (t : ℕ) → scan-lts.Need-same-length-3 (
+  scan-four-reads.Asked,
+  scan-four-reads.Learnt,
+  scan-below t,
+  scan.Post,
+  size-of-reads.Asked,
+  size-of-reads.Learnt,
+  meet-reads.Asked,
+  meet-reads.Learnt,
+) (scan-at t) scan.Post
+scan-same-length-3 t c = omega arith
+
+scan-returns-4 : (t : ℕ) → scan-lts.Need-returns-4 (
+  scan-four-reads.Asked,
+  scan-four-reads.Learnt,
+  scan-below t,
+  scan.Post,
+  size-of-reads.Asked,
+  size-of-reads.Learnt,
+  meet-reads.Asked,
+  meet-reads.Learnt,
+) (scan-at t) scan.Post
+scan-returns-4 t c = scanned-high _ (c .before .before .before .before .before .before .before .before .before .before .before .before .before .before .before .args .board .now) (λ i. omega (arith, c .before .before .before .before .before .before .before .before .before .before .before .before .before .before .shared-slice-known .given i)) _ _ _ _ _ _ _ (omega arith) (c .before .before .before .before .before .before .before .before .before .scan .ensures) (c .before .before .before .before .before .before .if3 .left) (rw (c .if4 .taken, c .before .before .before .before .before .size-of .ensures) at (c .before .before .before .scan2 .ensures))
+
+scan-meet-requires : (t : ℕ) → scan-lts.Need-meet-requires (
+  scan-four-reads.Asked,
+  scan-four-reads.Learnt,
+  scan-below t,
+  scan.Post,
+  size-of-reads.Asked,
+  size-of-reads.Learnt,
+  meet-reads.Asked,
+  meet-reads.Learnt,
+) (scan-at t) scan.Post
+scan-meet-requires t c κs = omega (arith, scanned-le _ (c .before .before .before .before .before .before .before .before .before .before .before .before .before .before .before .before .args .board .now) (λ i. omega (arith, c .before .before .before .before .before .before .before .before .before .before .before .before .before .before .before .shared-slice-known .given i)) _ _ _ _ _ (c .before .before .before .before .before .before .before .before .before .before .scan .ensures) (c .before .before .before .before .before .before .before .if3 .left), scanned-le _ (c .before .before .before .before .before .before .before .before .before .before .before .before .before .before .before .before .args .board .now) (λ i. omega (arith, c .before .before .before .before .before .before .before .before .before .before .before .before .before .before .before .shared-slice-known .given i)) _ _ _ _ _ (c .before .before .before .before .scan2 .ensures) (c .before .if4 .left))
+
+scan-same-length-4 : (t : ℕ) → scan-lts.Need-same-length-4 (
+  scan-four-reads.Asked,
+  scan-four-reads.Learnt,
+  scan-below t,
+  scan.Post,
+  size-of-reads.Asked,
+  size-of-reads.Learnt,
+  meet-reads.Asked,
+  meet-reads.Learnt,
+) (scan-at t) scan.Post
+scan-same-length-4 t c = omega arith
+
+scan-returns-5 : (t : ℕ) → scan-lts.Need-returns-5 (
+  scan-four-reads.Asked,
+  scan-four-reads.Learnt,
+  scan-below t,
+  scan.Post,
+  size-of-reads.Asked,
+  size-of-reads.Learnt,
+  meet-reads.Asked,
+  meet-reads.Learnt,
+) (scan-at t) scan.Post
+scan-returns-5 t c = scanned-met _ (c .before .before .before .before .before .before .before .before .before .before .before .before .before .before .before .before .before .before .before .args .board .now) (λ i. omega (arith, c .before .before .before .before .before .before .before .before .before .before .before .before .before .before .before .before .before .before .shared-slice-known .given i)) _ _ _ _ _ _ _ _ _ _ (omega arith) (omega arith) (c .before .before .before .before .before .before .before .before .before .before .before .before .before .scan .ensures) (c .before .before .before .before .before .before .before .before .before .before .if3 .left) (rw (c .before .before .before .before .before .before .before .before .before .size-of .ensures) at (c .before .before .before .before .before .before .before .scan2 .ensures)) (c .before .before .before .before .if4 .left) (c .before .before .meet .ensures)
+
+pub +scan-spec : {M : Type 1} → statement M
++scan-spec = close μ-scan λ t. scan-lts.spec (
+  scan-four-reads.Asked,
+  scan-four-reads.Learnt,
+  scan-below t,
+  scan.Post,
+  size-of-reads.Asked,
+  size-of-reads.Learnt,
+  meet-reads.Asked,
+  meet-reads.Learnt,
+)
+    (scan-at t)
+    scan.Post
+    (scan-returns t)
+    (scan-scan-four-requires t)
+    (scan-same-length t)
+    (scan-returns-2 t)
+    (scan-sub-h t)
+    (scan-scan-requires t)
+    (scan-same-length-2 t)
+    (scan-returns-3 t)
+    (scan-size-of-requires t)
+    (scan-add-scan t)
+    (scan-scan-requires-2 t)
+    (scan-same-length-3 t)
+    (scan-returns-4 t)
+    (scan-meet-requires t)
+    (scan-same-length-4 t)
+    (scan-returns-5 t)

@@ -1,0 +1,194 @@
+-- `pieces::seek` meets its contract. Assumes nothing.
+use Rattle.pieces.proofs.Spots.{spotted-past, spotted-exact, spotted-small, spotted-join}
+use Rattle.pieces.proofs.Steps.{pow-half}
+use native.Mathlib.Omega.{arith}
+use Prim.Native.Nat.{ℕ, _<_}
+use borrow.Fn.Kinds.{In}
+use borrow.Fn.PlainCycle.{Measures, is, falls, and}
+use Rattle.pieces.proofs.seek.Reads as seek
+use Rattle.pieces.proofs.seek.Kinds as seek-kinds
+use Rattle.pieces.proofs.+seek.Lts-seek as seek-lts
+use Rattle.pieces.proofs.join.Reads as join-reads
+use Rattle.pieces.proofs.seek_four.Reads as seek-four-reads
+use Rattle.pieces.proofs.size_of.Reads as size-of-reads
+use Rattle.pieces.proofs.+seek.{statement}
+use Rattle.pieces.proofs.+seek.Tie.{close}
+
+abbrev μ-seek : Measures 1 seek-kinds.ps ℕ
+μ-seek κs a = a .1 .1 .1 .0
+
+abbrev seek-at : ℕ → In 1 seek-kinds.ps
+seek-at t = and 1 seek-kinds.ps (is 1 seek-kinds.ps μ-seek t) seek.Pre
+
+abbrev seek-below : ℕ → In 1 seek-kinds.ps
+seek-below t = and 1 seek-kinds.ps (falls 1 seek-kinds.ps _<_ μ-seek t) seek.Pre
+
+seek-returns : (t : ℕ) → seek-lts.Need-returns (
+  seek-four-reads.Asked,
+  seek-four-reads.Learnt,
+  seek-below t,
+  seek.Post,
+  size-of-reads.Asked,
+  size-of-reads.Learnt,
+  join-reads.Asked,
+  join-reads.Learnt,
+) (seek-at t) seek.Post
+seek-returns t c = spotted-past _ _ _ _ _ (c .if1 .taken)
+
+seek-seek-four-requires : (t : ℕ) → seek-lts.Need-seek-four-requires (
+  seek-four-reads.Asked,
+  seek-four-reads.Learnt,
+  seek-below t,
+  seek.Post,
+  size-of-reads.Asked,
+  size-of-reads.Learnt,
+  join-reads.Asked,
+  join-reads.Learnt,
+) (seek-at t) seek.Post
+seek-seek-four-requires t c κs = rw (← c .if2 .taken) (omega arith)
+
+seek-returns-2 : (t : ℕ) → seek-lts.Need-returns-2 (
+  seek-four-reads.Asked,
+  seek-four-reads.Learnt,
+  seek-below t,
+  seek.Post,
+  size-of-reads.Asked,
+  size-of-reads.Learnt,
+  join-reads.Asked,
+  join-reads.Learnt,
+) (seek-at t) seek.Post
+seek-returns-2 t c = rw (c .before .if2 .taken) (c .seek-four .ensures)
+
+seek-sub-h : (t : ℕ) → seek-lts.Need-sub-h (
+  seek-four-reads.Asked,
+  seek-four-reads.Learnt,
+  seek-below t,
+  seek.Post,
+  size-of-reads.Asked,
+  size-of-reads.Learnt,
+  join-reads.Asked,
+  join-reads.Learnt,
+) (seek-at t) seek.Post
+seek-sub-h t c = omega arith
+
+seek-seek-requires : (t : ℕ) → seek-lts.Need-seek-requires (
+  seek-four-reads.Asked,
+  seek-four-reads.Learnt,
+  seek-below t,
+  seek.Post,
+  size-of-reads.Asked,
+  size-of-reads.Learnt,
+  join-reads.Asked,
+  join-reads.Learnt,
+) (seek-at t) seek.Post
+seek-seek-requires t c κs = omega (arith, pow-half (c .before .before .before .args .l) (λ e. omega arith))
+
+seek-returns-3 : (t : ℕ) → seek-lts.Need-returns-3 (
+  seek-four-reads.Asked,
+  seek-four-reads.Learnt,
+  seek-below t,
+  seek.Post,
+  size-of-reads.Asked,
+  size-of-reads.Learnt,
+  join-reads.Asked,
+  join-reads.Learnt,
+) (seek-at t) seek.Post
+seek-returns-3 t c = spotted-exact _ _ _ _ _ _ _ (omega arith) (c .before .before .before .before .seek .ensures) (c .before .before .if3 .taken) (c .if4 .taken)
+
+seek-returns-4 : (t : ℕ) → seek-lts.Need-returns-4 (
+  seek-four-reads.Asked,
+  seek-four-reads.Learnt,
+  seek-below t,
+  seek.Post,
+  size-of-reads.Asked,
+  size-of-reads.Learnt,
+  join-reads.Asked,
+  join-reads.Learnt,
+) (seek-at t) seek.Post
+seek-returns-4 t c = spotted-small _ _ _ _ _ _ _ (omega arith) (c .before .before .before .before .before .seek .ensures) (c .before .before .before .if3 .taken) (c .if5 .taken)
+
+seek-size-of-requires : (t : ℕ) → seek-lts.Need-size-of-requires (
+  seek-four-reads.Asked,
+  seek-four-reads.Learnt,
+  seek-below t,
+  seek.Post,
+  size-of-reads.Asked,
+  size-of-reads.Learnt,
+  join-reads.Asked,
+  join-reads.Learnt,
+) (seek-at t) seek.Post
+seek-size-of-requires t c κs = omega arith
+
+seek-add-seek : (t : ℕ) → seek-lts.Need-add-seek (
+  seek-four-reads.Asked,
+  seek-four-reads.Learnt,
+  seek-below t,
+  seek.Post,
+  size-of-reads.Asked,
+  size-of-reads.Learnt,
+  join-reads.Asked,
+  join-reads.Learnt,
+) (seek-at t) seek.Post
+seek-add-seek t c = omega (arith, pow-half (c .before .before .before .before .before .before .before .args .l) (λ e. omega arith))
+
+seek-seek-requires-2 : (t : ℕ) → seek-lts.Need-seek-requires-2 (
+  seek-four-reads.Asked,
+  seek-four-reads.Learnt,
+  seek-below t,
+  seek.Post,
+  size-of-reads.Asked,
+  size-of-reads.Learnt,
+  join-reads.Asked,
+  join-reads.Learnt,
+) (seek-at t) seek.Post
+seek-seek-requires-2 t c κs = omega (arith, pow-half (c .before .before .before .before .before .before .before .args .l) (λ e. omega arith))
+
+seek-join-requires : (t : ℕ) → seek-lts.Need-join-requires (
+  seek-four-reads.Asked,
+  seek-four-reads.Learnt,
+  seek-below t,
+  seek.Post,
+  size-of-reads.Asked,
+  size-of-reads.Learnt,
+  join-reads.Asked,
+  join-reads.Learnt,
+) (seek-at t) seek.Post
+seek-join-requires t c κs = omega arith
+
+seek-returns-5 : (t : ℕ) → seek-lts.Need-returns-5 (
+  seek-four-reads.Asked,
+  seek-four-reads.Learnt,
+  seek-below t,
+  seek.Post,
+  size-of-reads.Asked,
+  size-of-reads.Learnt,
+  join-reads.Asked,
+  join-reads.Learnt,
+) (seek-at t) seek.Post
+seek-returns-5 t c = rw (c .join .ensures) (spotted-join _ _ _ _ _ _ _ _ (omega arith) (omega arith) (c .before .before .before .before .before .seek .ensures) (rw (c .before .before .size-of .ensures) at (c .before .seek2 .ensures)))
+
+pub +seek-spec : {M : Type 1} → statement M
++seek-spec = close μ-seek λ t. seek-lts.spec (
+  seek-four-reads.Asked,
+  seek-four-reads.Learnt,
+  seek-below t,
+  seek.Post,
+  size-of-reads.Asked,
+  size-of-reads.Learnt,
+  join-reads.Asked,
+  join-reads.Learnt,
+)
+    (seek-at t)
+    seek.Post
+    (seek-returns t)
+    (seek-seek-four-requires t)
+    (seek-returns-2 t)
+    (seek-sub-h t)
+    (seek-seek-requires t)
+    (seek-returns-3 t)
+    (seek-returns-4 t)
+    (seek-size-of-requires t)
+    (seek-add-seek t)
+    (seek-seek-requires-2 t)
+    (seek-join-requires t)
+    (seek-returns-5 t)

@@ -1,0 +1,21 @@
+-- `pieces::list_leaf` meets its contract. Assumes nothing.
+use mathlib.Core.Path.{refl}
+use Rattle.pieces.proofs.Pairs.{listed-past, listed-leaf}
+use borrow.Author.Needs.{needs}
+use Rattle.pieces.proofs.list_leaf.Statement.{statement}
+use Rattle.pieces.proofs.list_leaf.Tie as tie
+
+mul-result : tie.Need-mul-result
+mul-result c = search needs
+
+shared-slice-read-result : tie.Need-shared-slice-read-result
+shared-slice-read-result c = search needs
+
+returns : tie.Need-returns
+returns c = λ S. listed-leaf _ _ _ _ _ refl (c .before .if1 .taken)
+
+returns-2 : tie.Need-returns-2
+returns-2 c = λ S. listed-past _ _ _ _ _ (c .if1 .left)
+
+pub list-leaf-spec : {M : Type 1} → statement M
+list-leaf-spec = tie.close (tie.spec mul-result shared-slice-read-result returns returns-2)

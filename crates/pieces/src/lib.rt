@@ -1,0 +1,523 @@
+// Pieces of a slot board: the test for a good board, the search for idle pieces, placing and tidying.
+// A board is a lent slice of leaves of which the first c count. Searches halve the block of 2^12 leaves that holds every board.
+ghost use mathlib.Core.Path.{_≡_};
+ghost use mathlib.Core.List.{List};
+ghost use Prim.Native.Nat.{ℕ, suc, _+_, _^_, _≤_, _<_};
+ghost use lib.ListN.{length};
+ghost use Rattle.pieces.specs.Board as boards;
+ghost use Rattle.pieces.specs.Placing as placing;
+ghost use Rattle.pieces.specs.Tidying as tidying;
+ghost use Rattle.pieces.specs.Halving as halving;
+
+// The number of leaves of a run.
+fn size_of(l: usize) -> usize
+    requires { ⌜ l ≤ 12 ⌝ }
+    ensures { λ r. ⌜ r ≡ 2 ^ l ⌝ }
+{
+    1usize << l
+}
+
+// How many leaves hold a name.
+pub fn weigh(board: &[u16], c: usize, name: u16) -> usize
+    requires { ⌜ c ≤ length (now board) ⌝ }
+    ensures { λ r. ⌜ r ≡ boards.weight c (now (board .entry)) name ⌝ }
+{
+    let mut n: usize = 0;
+    let mut i: usize = 0;
+    while i < c {
+        if board[i] == name {
+            n += 1;
+        }
+        i += 1;
+    }
+    n
+}
+
+// ---- the test for a good board
+
+// What a scan says of a block that is no run of one name, and of one where a name has two pieces of one size.
+const PARTS: usize = 65536;
+
+const TWICE: usize = 65537;
+
+// Notes a piece of exponent h in the mask of its name; whether there was one already.
+fn note(x: usize, h: usize, sizes: &mut [u16]) -> bool
+    requires { ⌜ (x ≤ 65536) × (h < 12) × (length (now sizes) ≡ 65536) ⌝ }
+    ensures { λ r. ⌜ halving.Noted x h (now (sizes .entry)) (now (sizes .exit)) r ⌝ }
+{
+    if x == PARTS {
+        return false;
+    }
+    let m = sizes[x] as usize;
+    if (m >> h) % 2 == 1 {
+        return true;
+    }
+    sizes[x] = (m + size_of(h)) as u16;
+    false
+}
+
+// The two halves of a block, of exponent h: each that is a run is a piece, where the block is no run.
+fn meet(f: usize, g: usize, h: usize, sizes: &mut [u16]) -> usize
+    requires { ⌜ (f ≤ 65536) × (g ≤ 65536) × (h < 12) × (length (now sizes) ≡ 65536) ⌝ }
+    ensures { λ r. ⌜ halving.Met f g h (now (sizes .entry)) (now (sizes .exit)) r ⌝ }
+{
+    if f == g {
+        return f;
+    }
+    if note(f, h, sizes) {
+        return TWICE;
+    }
+    if note(g, h, sizes) {
+        return TWICE;
+    }
+    PARTS
+}
+
+// The name of a leaf; PARTS beyond the board.
+fn scan_leaf(board: &[u16], c: usize, a: usize) -> usize
+    requires { ⌜ halving.Block c (length (now board)) a 0 ⌝ }
+    ensures { λ r. ⌜ (r ≤ 65536) × ((M : List ℕ) → halving.Scanned c (now (board .entry)) a 0 M M r) ⌝ }
+{
+    if a < c {
+        return board[a] as usize;
+    }
+    PARTS
+}
+
+// A block of two leaves, scanned.
+fn scan_two(board: &[u16], c: usize, a: usize, sizes: &mut [u16]) -> usize
+    requires { ⌜ halving.Block c (length (now board)) a 1 × (length (now sizes) ≡ 65536) ⌝ }
+    ensures { λ r. ⌜ halving.Scanned c (now (board .entry)) a 1 (now (sizes .entry)) (now (sizes .exit)) r ⌝ }
+{
+    let f = scan_leaf(board, c, a);
+    let g = scan_leaf(board, c, a + 1);
+    meet(f, g, 0, sizes)
+}
+
+// A block of four leaves, scanned.
+fn scan_four(board: &[u16], c: usize, a: usize, sizes: &mut [u16]) -> usize
+    requires { ⌜ halving.Block c (length (now board)) a 2 × (length (now sizes) ≡ 65536) ⌝ }
+    ensures { λ r. ⌜ halving.Scanned c (now (board .entry)) a 2 (now (sizes .entry)) (now (sizes .exit)) r ⌝ }
+{
+    let f = scan_two(board, c, a, sizes);
+    if f == TWICE {
+        return TWICE;
+    }
+    let g = scan_two(board, c, a + 2, sizes);
+    if g == TWICE {
+        return TWICE;
+    }
+    meet(f, g, 1, sizes)
+}
+
+// The name of a block that is a run of one name; else PARTS, with every piece inside noted, or TWICE.
+// The last two halvings are written out: they are three calls in four.
+fn scan(board: &[u16], c: usize, a: usize, l: usize, sizes: &mut [u16]) -> usize
+    requires { ⌜ halving.Block c (length (now board)) a l × (2 ≤ l) × (length (now sizes) ≡ 65536) ⌝ }
+    ensures { λ r. ⌜ halving.Scanned c (now (board .entry)) a l (now (sizes .entry)) (now (sizes .exit)) r ⌝ }
+{
+    if c <= a {
+        return PARTS;
+    }
+    if l == 2 {
+        return scan_four(board, c, a, sizes);
+    }
+    let h = l - 1;
+    let f = scan(board, c, a, h, sizes);
+    if f == TWICE {
+        return TWICE;
+    }
+    let g = scan(board, c, a + size_of(h), h, sizes);
+    if g == TWICE {
+        return TWICE;
+    }
+    meet(f, g, h, sizes)
+}
+
+// No size of any name. The array is made here and nowhere else, so that no other proof computes it.
+fn no_sizes() -> [u16; 65536]
+    ensures { λ r. ⌜ r ≡ halving.blank 65536 ⌝ }
+{
+    [0u16; 65536]
+}
+
+// Whether the board is good: no two pieces of the same name, idle included, have equal size.
+pub fn good(board: &[u16], c: usize) -> bool
+    requires { ⌜ (c ≤ length (now board)) × (c ≤ 4095) ⌝ }
+    ensures { λ r. ⌜ r ≡ boards.good c (now (board .entry)) ⌝ }
+{
+    let mut sizes = no_sizes();
+    scan(board, c, 0, 12, &mut sizes) != TWICE
+}
+
+// ---- the search for the smallest idle piece
+
+// An idle piece by its exponent and start; an exponent of 13 stands for none.
+struct Spot {
+    exponent: usize,
+    start: usize,
+}
+
+// No piece, where a block is idle but too small.
+fn settle(s: Spot, n: usize) -> Spot
+    ensures { λ r. ⌜ r ≡ halving.settled s n ⌝ }
+{
+    if s.exponent < n {
+        return Spot {
+            exponent: 13,
+            start: 0,
+        };
+    }
+    s
+}
+
+// The smaller of two pieces, the left one where they are equal.
+fn nearer(f: Spot, g: Spot) -> Spot
+    ensures { λ r. ⌜ r ≡ halving.nearer f g ⌝ }
+{
+    if g.exponent < f.exponent {
+        return g;
+    }
+    f
+}
+
+// What a block holds by what its halves hold, of exponent h, the left one at a.
+fn join(f: Spot, g: Spot, a: usize, h: usize, n: usize) -> Spot
+    requires { ⌜ h < 12 ⌝ }
+    ensures { λ r. ⌜ r ≡ halving.joined f g a h n ⌝ }
+{
+    if f.exponent == h {
+        if g.exponent == h {
+            return Spot {
+                exponent: h + 1,
+                start: a,
+            };
+        }
+    }
+    nearer(settle(f, n), settle(g, n))
+}
+
+// A leaf that is idle.
+fn seek_leaf(board: &[u16], c: usize, a: usize) -> Spot
+    requires { ⌜ halving.Block c (length (now board)) a 0 ⌝ }
+    ensures { λ r. ⌜ ((n : ℕ) → halving.Spotted c (now (board .entry)) n a 0 r) ⌝ }
+{
+    if a < c {
+        if board[a] == 0 {
+            return Spot {
+                exponent: 0,
+                start: a,
+            };
+        }
+    }
+    Spot {
+        exponent: 13,
+        start: 0,
+    }
+}
+
+// The search of a block of two leaves.
+fn seek_two(board: &[u16], c: usize, a: usize, n: usize) -> Spot
+    requires { ⌜ halving.Block c (length (now board)) a 1 ⌝ }
+    ensures { λ r. ⌜ halving.Spotted c (now (board .entry)) n a 1 r ⌝ }
+{
+    join(seek_leaf(board, c, a), seek_leaf(board, c, a + 1), a, 0, n)
+}
+
+// The search of a block of four leaves.
+fn seek_four(board: &[u16], c: usize, a: usize, n: usize) -> Spot
+    requires { ⌜ halving.Block c (length (now board)) a 2 ⌝ }
+    ensures { λ r. ⌜ halving.Spotted c (now (board .entry)) n a 2 r ⌝ }
+{
+    join(
+        seek_two(board, c, a, n),
+        seek_two(board, c, a + 2, n),
+        a,
+        1,
+        n,
+    )
+}
+
+// The smallest idle piece of exponent n or more in the block of exponent l at a; or the block itself, where it is idle.
+// It stops at the left half where that has a piece of just the right size, or is too small to be part of one.
+fn seek(board: &[u16], c: usize, a: usize, l: usize, n: usize) -> Spot
+    requires { ⌜ halving.Block c (length (now board)) a l × (2 ≤ l) ⌝ }
+    ensures { λ r. ⌜ halving.Spotted c (now (board .entry)) n a l r ⌝ }
+{
+    if c <= a {
+        return Spot {
+            exponent: 13,
+            start: 0,
+        };
+    }
+    if l == 2 {
+        return seek_four(board, c, a, n);
+    }
+    let h = l - 1;
+    let f = seek(board, c, a, h, n);
+    if f.exponent != h {
+        if f.exponent == n {
+            return f;
+        }
+        if h < n {
+            return f;
+        }
+    }
+    let g = seek(board, c, a + size_of(h), h, n);
+    join(f, g, a, h, n)
+}
+
+// ---- placing
+
+// Gives the leaves from a on to a name.
+fn fill(board: &mut [u16], a: usize, size: usize, name: u16)
+    requires { ⌜ (a + size ≤ length (now board)) × (a + size ≤ 4096) ⌝ }
+    ensures { λ _. ⌜ now (board .exit) ≡ placing.fill (now (board .entry)) a size name ⌝ }
+{
+    let mut i: usize = 0;
+    while i < size {
+        board[a + i] = name;
+        i += 1;
+    }
+}
+
+// Gives a name the low end of the smallest idle piece that is large enough for 2^n leaves.
+fn place_power(board: &mut [u16], c: usize, n: usize, name: u16)
+    requires { ⌜ halving.Fitting c (now board) n ⌝ }
+    ensures { λ _. ⌜ now (board .exit) ≡ placing.put c (now (board .entry)) name n ⌝ }
+{
+    let s = seek(board, c, 0, 12, n);
+    let at = s.start;
+    fill(board, at, size_of(n), name);
+}
+
+// Places the power 2^n of a weight, where it has one.
+fn place_digit(board: &mut [u16], c: usize, n: usize, name: u16, weight: usize)
+    requires { ⌜ halving.Roomy c (now board) name weight (suc n) ⌝ }
+    ensures { λ _. ⌜ now (board .exit) ≡ placing.putDigit c (now (board .entry)) name weight n ⌝ }
+{
+    if (weight >> n) % 2 == 1 {
+        place_power(board, c, n, name);
+    }
+}
+
+// Gives a name as many leaves as its weight says, cut into its powers of two, largest first.
+pub fn place(board: &mut [u16], c: usize, name: u16, weight: usize)
+    requires { ⌜ placing.Placeable c (now board) name weight ⌝ }
+    ensures { λ _. ⌜ now (board .exit) ≡ placing.placed c (now (board .entry)) name weight ⌝ }
+{
+    let mut n: usize = 12;
+    while 0 < n {
+        n -= 1;
+        place_digit(board, c, n, name, weight);
+    }
+}
+
+// ---- removing and tidying
+
+// Makes all leaves of a name idle.
+fn clear(board: &mut [u16], c: usize, name: u16)
+    requires { ⌜ c ≤ length (now board) ⌝ }
+    ensures { λ _. ⌜ now (board .exit) ≡ tidying.clear (now (board .entry)) name c ⌝ }
+{
+    let mut i: usize = 0;
+    while i < c {
+        if board[i] == name {
+            board[i] = 0;
+        }
+        i += 1;
+    }
+}
+
+// Enters an idle piece of exponent h before those entered so far: place h has the lowest start of the exponent, place 12 + h the next.
+fn enter(starts: &mut [usize], h: usize, s: usize)
+    requires { ⌜ (h < 12) × (length (now starts) ≡ 24) ⌝ }
+    ensures { λ _. ⌜ now (starts .exit) ≡ halving.entered (now (starts .entry)) h s ⌝ }
+{
+    let old = starts[h];
+    starts[12 + h] = old;
+    starts[h] = s;
+}
+
+// The two halves of a block, at a and m, idle or not: one that is idle is a piece, where the block is not idle.
+fn meet_idle(f: bool, g: bool, a: usize, m: usize, h: usize, starts: &mut [usize]) -> bool
+    requires { ⌜ (h < 12) × (length (now starts) ≡ 24) ⌝ }
+    ensures { λ r. ⌜ halving.MetIdle f g a m h (now (starts .entry)) (now (starts .exit)) r ⌝ }
+{
+    if f {
+        if g {
+            return true;
+        }
+        enter(starts, h, a);
+        return false;
+    }
+    if g {
+        enter(starts, h, m);
+    }
+    false
+}
+
+// Whether a leaf is idle.
+fn list_leaf(board: &[u16], c: usize, a: usize) -> bool
+    requires { ⌜ halving.Block c (length (now board)) a 0 ⌝ }
+    ensures { λ r. ⌜ ((S : List ℕ) → halving.Listed c (now (board .entry)) a 0 S S r) ⌝ }
+{
+    if a < c {
+        return board[a] == 0;
+    }
+    false
+}
+
+// A block of two leaves, listed.
+fn list_two(board: &[u16], c: usize, a: usize, starts: &mut [usize]) -> bool
+    requires { ⌜ halving.Block c (length (now board)) a 1 × (length (now starts) ≡ 24) ⌝ }
+    ensures { λ r. ⌜ halving.Listed c (now (board .entry)) a 1 (now (starts .entry)) (now (starts .exit)) r ⌝ }
+{
+    let g = list_leaf(board, c, a + 1);
+    let f = list_leaf(board, c, a);
+    meet_idle(f, g, a, a + 1, 0, starts)
+}
+
+// A block of four leaves, listed.
+fn list_four(board: &[u16], c: usize, a: usize, starts: &mut [usize]) -> bool
+    requires { ⌜ halving.Block c (length (now board)) a 2 × (length (now starts) ≡ 24) ⌝ }
+    ensures { λ r. ⌜ halving.Listed c (now (board .entry)) a 2 (now (starts .entry)) (now (starts .exit)) r ⌝ }
+{
+    let g = list_two(board, c, a + 2, starts);
+    let f = list_two(board, c, a, starts);
+    meet_idle(f, g, a, a + 2, 1, starts)
+}
+
+// Whether a block is idle; the idle pieces inside it are entered, from the highest start to the lowest.
+fn list_idle(board: &[u16], c: usize, a: usize, l: usize, starts: &mut [usize]) -> bool
+    requires { ⌜ halving.Block c (length (now board)) a l × (2 ≤ l) × (length (now starts) ≡ 24) ⌝ }
+    ensures { λ r. ⌜ halving.Listed c (now (board .entry)) a l (now (starts .entry)) (now (starts .exit)) r ⌝ }
+{
+    if c <= a {
+        return false;
+    }
+    if l == 2 {
+        return list_four(board, c, a, starts);
+    }
+    let h = l - 1;
+    let m = a + size_of(h);
+    let g = list_idle(board, c, m, h, starts);
+    let f = list_idle(board, c, a, h, starts);
+    meet_idle(f, g, a, m, h, starts)
+}
+
+// The smallest exponent of which two starts are entered; 12 where there is none.
+fn smallest_pair(starts: &[usize]) -> usize
+    requires { ⌜ length (now starts) ≡ 24 ⌝ }
+    ensures { λ r. ⌜ r ≡ halving.smallestPair (now (starts .entry)) ⌝ }
+{
+    let mut e: usize = 0;
+    while e < 12 {
+        if starts[12 + e] != 4096 {
+            return e;
+        }
+        e += 1;
+    }
+    12
+}
+
+// Two idle pieces of one size, of the smallest size that has two, and of that size the lowest; an exponent of 12 stands for none.
+struct Pair {
+    exponent: usize,
+    first: usize,
+    second: usize,
+}
+
+// The pair that tidying takes next, in one pass over the board.
+fn find_pair(board: &[u16], c: usize) -> Pair
+    requires { ⌜ (c ≤ length (now board)) × (c ≤ 4095) ⌝ }
+    ensures { λ r. ⌜ halving.Paired c (now (board .entry)) r ⌝ }
+{
+    let mut starts = [4096usize; 24];
+    list_idle(board, c, 0, 12, &mut starts);
+    let e = smallest_pair(&starts);
+    if e == 12 {
+        return Pair {
+            exponent: 12,
+            first: 0,
+            second: 0,
+        };
+    }
+    Pair {
+        exponent: e,
+        first: starts[e],
+        second: starts[12 + e],
+    }
+}
+
+// The start of a run's twin.
+fn twin(a: usize, e: usize) -> usize
+    requires { ⌜ (e ≤ 12) × (a ≤ 4096) ⌝ }
+    ensures { λ r. ⌜ r ≡ tidying.twin a e ⌝ }
+{
+    if (a >> e) % 2 == 0 {
+        return a + size_of(e);
+    }
+    a - size_of(e)
+}
+
+// Writes the leaves from one start on to another, in order.
+fn copy_run(board: &mut [u16], from: usize, to: usize, size: usize)
+    requires { ⌜ halving.Apart (length (now board)) from to size ⌝ }
+    ensures { λ _. ⌜ now (board .exit) ≡ tidying.copy (now (board .entry)) from to size ⌝ }
+{
+    let mut i: usize = 0;
+    while i < size {
+        let x = board[from + i];
+        board[to + i] = x;
+        i += 1;
+    }
+}
+
+// Moves a run; its old leaves become idle.
+fn move_run(board: &mut [u16], from: usize, to: usize, size: usize)
+    requires { ⌜ halving.Apart (length (now board)) from to size ⌝ }
+    ensures { λ _. ⌜ now (board .exit) ≡ tidying.move (now (board .entry)) from to size ⌝ }
+{
+    copy_run(board, from, to, size);
+    fill(board, from, size, 0);
+}
+
+// Makes room beside the second of a pair, or, where that is a root, beside the first.
+fn join_pair(board: &mut [u16], c: usize, e: usize, u: usize, v: usize)
+    requires { ⌜ (c ≤ length (now board)) × (c ≤ 4095) × halving.Lowest c (now board) e u v ⌝ }
+    ensures { λ _. ⌜ now (board .exit) ≡ tidying.join c (now (board .entry)) e u v ⌝ }
+{
+    let z = size_of(e);
+    let t = twin(v, e);
+    if t + z <= c {
+        move_run(board, t, u, z);
+    } else {
+        move_run(board, twin(u, e), v, z);
+    }
+}
+
+// Moves runs until no two idle pieces have equal size.
+fn tidy(board: &mut [u16], c: usize)
+    requires { ⌜ (c ≤ length (now board)) × (c ≤ 4095) ⌝ }
+    ensures { λ _. ⌜ now (board .exit) ≡ tidying.tidied c (now (board .entry)) ⌝ }
+{
+    let mut steps: usize = 0;
+    while steps < c {
+        let p = find_pair(board, c);
+        if p.exponent == 12 {
+            return;
+        }
+        join_pair(board, c, p.exponent, p.first, p.second);
+        steps += 1;
+    }
+}
+
+// Makes all leaves of a name idle, and tidies.
+pub fn remove(board: &mut [u16], c: usize, name: u16)
+    requires { ⌜ (c ≤ length (now board)) × (c ≤ 4095) ⌝ }
+    ensures { λ _. ⌜ now (board .exit) ≡ tidying.removed c (now (board .entry)) name ⌝ }
+{
+    clear(board, c, name);
+    tidy(board, c);
+}

@@ -1,0 +1,19 @@
+-- What upper crates cite is Laws. The rest is inner.
+mod Tests
+mod Tabled
+mod Reverse
+mod Zeros
+mod Lists
+mod Places
+mod Stepping
+mod Successive
+mod Counting
+mod Trees
+mod Runs
+mod Rounds
+mod Walk
+mod Scan
+mod Powers
+mod Fair
+mod Examples
+pub mod Laws

@@ -1,0 +1,36 @@
+-- `sequences::after` meets its contract.
+-- Assumes nothing.
+use borrow.Author.Needs.{needs}
+use mathlib.Core.Path.{sym}
+use Prim.Native.Nat.{_+_, _^_, _≤_, _<_}
+use native.Mathlib.Omega.{arith}
+use lib.Pow.{pow-mono}
+use Rattle.sequences.proofs.Places.{shift-exact}
+use Rattle.sequences.proofs.Stepping.{after-more, after-end}
+use Rattle.sequences.proofs.after.Statement.{statement}
+use Rattle.sequences.proofs.after.Tie as tie
+
+add-if1 : tie.Need-add-if1
+add-if1 c = let l : 2 ^ c .args .k ≤ 2 ^ 63 = pow-mono {j = 63} (omega arith) in omega arith
+
+shl-if1 : tie.Need-shl-if1
+shl-if1 c = search needs
+
+add-result : tie.Need-add-result
+add-result c = search needs
+
+returns : tie.Need-returns
+returns c =
+    let a = c .before .args in
+    let l : a .p + 1 < 2 ^ a .k = rw (← shift-exact (a .k) (c .before .pre .0)) (c .if1 .taken) in
+    let e = after-more (a .k) (a .p) (omega arith) in
+    omega arith
+
+returns-2 : tie.Need-returns-2
+returns-2 c =
+    let a = c .before .args in
+    let l : 2 ^ a .k ≤ a .p + 1 = rw (← shift-exact (a .k) (c .before .pre .0)) (c .if1 .left) in
+    sym (after-end (a .k) (a .p) (omega arith))
+
+pub after-spec : {M : Type 1} → statement M
+after-spec = tie.close (tie.spec add-if1 shl-if1 add-result returns returns-2)

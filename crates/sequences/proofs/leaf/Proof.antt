@@ -1,0 +1,47 @@
+-- `sequences::leaf` meets its contract.
+-- Assumes nothing.
+use borrow.Author.Needs.{needs}
+use mathlib.Core.Path.{_≡_}
+use Prim.Native.Nat.{_+_}
+use Rattle.sequences.specs.Board.{leafAt}
+use native.Mathlib.Omega.{arith}
+use Rattle.sequences.proofs.Stepping.{column-small, term-small, index-small, leaf-64, leaf-small}
+use Rattle.sequences.proofs.leaf.Statement.{statement}
+use Rattle.sequences.proofs.leaf.Tie as tie
+
+column-requires : tie.Need-column-requires
+column-requires c κs = search needs
+
+start-requires : tie.Need-start-requires
+start-requires c κs = let a = c .before .before in omega (arith, column-small (a .args .c) (a .args .p) (a .pre .1))
+
+term-requires : tie.Need-term-requires
+term-requires c κs = search needs
+
+shr-reversed : tie.Need-shr-reversed
+shr-reversed c = let a = c .before .before .before .before in omega (arith, term-small (a .args .c) (a .args .p) (a .pre .1))
+
+reversed-requires : tie.Need-reversed-requires
+reversed-requires c κs = let a = c .before .before .before .before in (c .before .before .before .before .pre .0, rw (c .term .ensures) (index-small (a .args .c) (a .args .p) (a .pre .1)), omega (arith, column-small (a .args .c) (a .args .p) (a .pre .1)))
+
+-- The sum is the leaf.
+is : (c : tie.After-reversed) → c .before .before .start .result + c .reversed .result ≡ leafAt (c .before .before .before .before .before .args .c) (c .before .before .before .before .before .args .p)
+is c = let a = c .before .before .before .before .before in cc (leaf-64 (a .args .c) (a .args .p) (a .pre .1))
+
+add-result : tie.Need-add-result
+add-result c = let a = c .before .before .before .before .before in omega (arith, is c, leaf-small (a .args .c) (a .args .p) (a .pre .1))
+
+returns : tie.Need-returns
+returns c = is c
+
+pub leaf-spec : {M : Type 1} → statement M
+leaf-spec =
+    tie.close
+    (tie.spec
+    column-requires
+    start-requires
+    term-requires
+    shr-reversed
+    reversed-requires
+    add-result
+    returns)
