@@ -1,0 +1,48 @@
+-- `calls::Drive::check_slot` meets its contract.
+-- Assumes nothing.
+use borrow.Author.Needs.{needs}
+use mathlib.Core.Path.{sym, _∙_}
+use Rattle.calls.proofs.Checking.{slot-parts, open-clear}
+use Rattle.calls.proofs.Drive.check_slot.Statement.{statement}
+use Rattle.calls.proofs.Drive.check_slot.Tie as tie
+
+cast-c : tie.Need-cast-c
+cast-c c = search needs
+
+check-open-requires : tie.Need-check-open-requires
+check-open-requires c κs = search needs
+
+enum-known-r : tie.Need-enum-known-r
+enum-known-r c = search needs
+
+enum-told : tie.Need-enum-told
+enum-told c = search needs
+
+cast-check-position : tie.Need-cast-check-position
+cast-check-position c = search needs
+
+check-position-requires : tie.Need-check-position-requires
+check-position-requires c κs =
+    let s = open-clear _ _ (sym (c .before .before .before .check-open .ensures) ∙ c .before .enum-told .given .1) in
+    (s .some, s .few)
+
+returns : tie.Need-returns
+returns c = simp (slot-parts, sym (c .before .before .before .check-open .ensures) ∙ c .before .r .given .1)
+
+returns-2 : tie.Need-returns-2
+returns-2 c =
+    c .check-position .ensures
+    ∙ simp (slot-parts, sym (c .before .before .before .before .check-open .ensures) ∙ c .before .before .enum-told .given .1)
+
+pub check-slot-spec : {M : Type 1} → statement M
+check-slot-spec =
+    tie.close
+    (tie.spec
+    cast-c
+    check-open-requires
+    enum-known-r
+    enum-told
+    cast-check-position
+    check-position-requires
+    returns
+    returns-2)

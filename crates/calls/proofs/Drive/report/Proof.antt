@@ -1,0 +1,95 @@
+-- `calls::Drive::report` meets its contract.
+-- Assumes nothing.
+use borrow.Author.Needs.{needs}
+use mathlib.Core.Path.{_≡_, sym, _∙_}
+use native.Mathlib.Omega.{arith}
+use Prim.Native.Nat.{_+_, _-_, _≤_, _<_}
+use native.Mathlib.Nat.{div-le-self}
+use lib.Count.{ones-le}
+use Rattle.calls.specs.Refusals.{reportCheck}
+use Rattle.calls.specs.declared.Check.the-variants.{Clear}
+use Rattle.calls.proofs.Checking.{slot-sized, report-slot, report-good, report-held, count-small}
+use Rattle.pieces.proofs.Laws.{pieces-ones}
+use Rattle.calls.proofs.Drive.report.Statement.{statement}
+use Rattle.calls.proofs.Drive.report.Tie as tie
+
+-- no refusal applies
+clear : (c : tie.After-enum-told) → reportCheck (c .before .before .before .before .args .self) (c .before .before .before .before .args .board .now) (c .before .before .before .before .args .name) ≡ Clear
+clear c = sym (c .before .before .check-report .ensures) ∙ c .enum-told .given .1
+
+-- the weight is some, and at most the capacity
+counted : (c : tie.After-weigh) → (0 < c .weigh .result) × (c .weigh .result ≤ c .before .before .before .before .before .before .args .self .capacity)
+    × (c .before .before .before .before .before .before .args .self .capacity ≤ 4095)
+counted c =
+    let e = clear (c .before .before) in
+    let z = slot-sized _ _ (report-slot _ _ _ e) in
+    let h = report-held _ _ _ e in
+    let l = count-small _ _ _ _ (c .weigh .ensures) in
+    rw (c .weigh .ensures) (omega arith)
+
+check-report-requires : tie.Need-check-report-requires
+check-report-requires c κs = search needs
+
+enum-known-r : tie.Need-enum-known-r
+enum-known-r c = search needs
+
+enum-told : tie.Need-enum-told
+enum-told c = search needs
+
+cast-c : tie.Need-cast-c
+cast-c c = search needs
+
+weigh-requires : tie.Need-weigh-requires
+weigh-requires c κs = let s = slot-sized _ _ (report-slot _ _ _ (clear (c .before))) in s .long
+
+sub-spacing : tie.Need-sub-spacing
+sub-spacing c = let w = counted c in omega arith
+
+add-spacing : tie.Need-add-spacing
+add-spacing c = let w = counted c in omega arith
+
+div-spacing : tie.Need-div-spacing
+div-spacing c = let w = counted c in omega arith
+
+cast-t13 : tie.Need-cast-t13
+cast-t13 c = let w = counted c in omega arith
+
+cast-t15 : tie.Need-cast-t15
+cast-t15 c = let w = counted c in let l = ones-le 12 (c .weigh .result) (omega arith) in omega arith
+
+cast-t16 : tie.Need-cast-t16
+cast-t16 c =
+    let w = counted c in
+    let C = c .before .before .before .before .before .before .args .self .capacity in
+    let l = div-le-self (C + (c .weigh .result - 1)) (c .weigh .result) in
+    omega arith
+
+returns : tie.Need-returns
+returns c =
+    let e = sym (c .before .before .before .check-report .ensures) ∙ c .before .r .given .1 in
+    (simp e, simp e)
+
+returns-2 : tie.Need-returns-2
+returns-2 c =
+    let e = clear (c .before .before) in
+    let z = slot-sized _ _ (report-slot _ _ _ e) in
+    let n = pieces-ones _ _ (c .before .before .before .before .before .before .args .name) (z .few) (report-good _ _ _ e) in
+    (simp (e, c .weigh .ensures, n), simp (e, c .weigh .ensures, n))
+
+pub report-spec : {M : Type 1} → statement M
+report-spec =
+    tie.close
+    (tie.spec
+    check-report-requires
+    enum-known-r
+    enum-told
+    cast-c
+    weigh-requires
+    sub-spacing
+    add-spacing
+    div-spacing
+    cast-t13
+    cast-t15
+    cast-t16
+    returns
+    returns-2)

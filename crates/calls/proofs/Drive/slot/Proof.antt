@@ -1,0 +1,95 @@
+-- `calls::Drive::slot` meets its contract.
+-- Assumes nothing.
+use borrow.Author.Needs.{needs}
+use mathlib.Core.Path.{_≡_, sym, _∙_}
+use native.Mathlib.Omega.{arith}
+use Prim.Native.Nat.{_≤_, _<_}
+use lib.ListN.{length}
+use Rattle.sequences.proofs.Laws.{leaf-below, passed-one, next-position, position-small}
+use Rattle.calls.specs.Refusals.{slotCheck}
+use Rattle.calls.specs.declared.Check.the-variants.{Clear}
+use Rattle.calls.proofs.Checking.{slot-sized, slot-position}
+use Rattle.calls.proofs.Drive.slot.Statement.{statement}
+use Rattle.calls.proofs.Drive.slot.Tie as tie
+
+-- no refusal applies
+clear : (c : tie.After-enum-told) → slotCheck (c .before .before .before .before .args .self) (c .before .before .before .before .args .board .now) ≡ Clear
+clear c = sym (c .before .before .check-slot .ensures) ∙ c .enum-told .given .1
+
+-- what pick gives is on the board, and fits
+small : (c : tie.After-pick)
+    → (c .pick .result .leaf < length (c .before .before .before .before .before .before .before .args .board .now))
+    × (c .pick .result .leaf ≤ 4095) × (c .pick .result .passed ≤ 1) × (c .pick .result .next ≤ 4095)
+small c =
+    let e = clear (c .before .before .before) in
+    let z = slot-sized _ _ e in
+    let at = slot-position _ _ e in
+    let l = leaf-below _ _ at in
+    let o = passed-one _ _ at in
+    let n = position-small _ _ (next-position _ _ at) in
+    rw (c .pick .ensures) (omega arith)
+
+check-slot-requires : tie.Need-check-slot-requires
+check-slot-requires c κs = search needs
+
+enum-known-r : tie.Need-enum-known-r
+enum-known-r c = search needs
+
+enum-told : tie.Need-enum-told
+enum-told c = search needs
+
+cast-pick : tie.Need-cast-pick
+cast-pick c = search needs
+
+cast-pick-2 : tie.Need-cast-pick-2
+cast-pick-2 c = search needs
+
+pick-requires : tie.Need-pick-requires
+pick-requires c κs = slot-position _ _ (clear (c .before .before))
+
+cast-moved : tie.Need-cast-moved
+cast-moved c = let s = small (c .before) in omega arith
+
+moved-requires : tie.Need-moved-requires
+moved-requires c κs = search needs
+
+mul-t9 : tie.Need-mul-t9
+mul-t9 c = let s = small (c .before .before) in omega arith
+
+shared-slice-read-t14 : tie.Need-shared-slice-read-t14
+shared-slice-read-t14 c = let s = small (c .before .before .before) in omega arith
+
+cast-t15 : tie.Need-cast-t15
+cast-t15 c = let s = small (c .before .before .before) in omega arith
+
+cast-t16 : tie.Need-cast-t16
+cast-t16 c = let s = small (c .before .before .before .before) in omega arith
+
+returns : tie.Need-returns
+returns c =
+    let e = sym (c .before .before .before .check-slot .ensures) ∙ c .before .r .given .1 in
+    (simp e, simp e)
+
+returns-2 : tie.Need-returns-2
+returns-2 c =
+    let e = clear (c .before .before .before .before .before .before .before) in
+    (simp (e, c .before .before .moved .ensures, c .before .before .before .before .pick .ensures), simp (e, c .before .before .before .before .pick .ensures))
+
+pub slot-spec : {M : Type 1} → statement M
+slot-spec =
+    tie.close
+    (tie.spec
+    check-slot-requires
+    enum-known-r
+    enum-told
+    cast-pick
+    cast-pick-2
+    pick-requires
+    cast-moved
+    moved-requires
+    mul-t9
+    shared-slice-read-t14
+    cast-t15
+    cast-t16
+    returns
+    returns-2)

@@ -1,0 +1,4 @@
+pub mod Checking
+pub mod Writing
+pub mod Worked
+pub mod Laws

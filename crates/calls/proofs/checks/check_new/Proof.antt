@@ -1,0 +1,46 @@
+-- `calls::checks::check_new` meets its contract.
+-- Assumes nothing.
+use borrow.Author.Needs.{needs}
+use borrow.Author.Tests.{eq-eqb, ne-eqb, lt-ltb, le-ltb}
+use Rattle.calls.specs.Refusals.{newCheck}
+use Rattle.calls.proofs.checks.check_new.Statement.{statement}
+use Rattle.calls.proofs.checks.check_new.Tie as tie
+
+returns : tie.Need-returns
+unfolding newCheck
+returns c = simp (eq-eqb _ _ (c .if1 .taken))
+
+returns-2 : tie.Need-returns-2
+unfolding newCheck
+returns-2 c = simp (ne-eqb _ _ (c .before .if1 .left), eq-eqb _ _ (c .if2 .taken))
+
+weigh-requires : tie.Need-weigh-requires
+weigh-requires c κs = search needs
+
+returns-3 : tie.Need-returns-3
+unfolding newCheck
+returns-3 c =
+    let a = c .before .before in
+    simp (ne-eqb _ _ (a .before .if1 .left), ne-eqb _ _ (a .if2 .left), ← c .before .weigh .ensures, lt-ltb _ _ (c .if3 .taken))
+
+weigh-requires-2 : tie.Need-weigh-requires-2
+weigh-requires-2 c κs = search needs
+
+returns-4 : tie.Need-returns-4
+unfolding newCheck
+returns-4 c =
+    let b = c .before .before in
+    let a = b .before .before in
+    simp
+    (ne-eqb _ _ (a .before .if1 .left), ne-eqb _ _ (a .if2 .left), ← b .before .weigh .ensures, le-ltb _ _ (b .if3 .left), ← c .before .weigh2 .ensures, lt-ltb _ _ (c .if4 .taken))
+
+returns-5 : tie.Need-returns-5
+unfolding newCheck
+returns-5 c =
+    let b = c .before .before in
+    let a = b .before .before in
+    simp
+    (ne-eqb _ _ (a .before .if1 .left), ne-eqb _ _ (a .if2 .left), ← b .before .weigh .ensures, le-ltb _ _ (b .if3 .left), ← c .before .weigh2 .ensures, le-ltb _ _ (c .if4 .left))
+
+pub check-new-spec : {M : Type 1} → statement M
+check-new-spec = tie.close (tie.spec returns returns-2 weigh-requires returns-3 weigh-requires-2 returns-4 returns-5)

@@ -1,0 +1,51 @@
+-- Document 01's number and values for every case of every answer: 0 and the values of a call that is done, the number and zeros of a refused one.
+-- Assumes nothing.
+use mathlib.Core.List.{List, [], _∷_, map}
+use Prim.Native.Nat.{ℕ}
+use Rattle.calls.specs.Refusals.{numberOf}
+use Rattle.calls.specs.declared.Check.{Check}
+use Rattle.calls.specs.declared.Check.the-variants.{Clear, Refused}
+use Rattle.calls.specs.declared.Opening.{Opening}
+use Rattle.calls.specs.declared.Opening.the-variants as opening
+use Rattle.calls.specs.declared.Change.{Change}
+use Rattle.calls.specs.declared.Change.the-variants as change
+use Rattle.calls.specs.declared.Serving.{Serving}
+use Rattle.calls.specs.declared.Serving.the-variants as serving
+use Rattle.calls.specs.declared.Rounding.{Rounding}
+use Rattle.calls.specs.declared.Rounding.the-variants as rounding
+use Rattle.calls.specs.declared.Report.{Report}
+use Rattle.calls.specs.declared.Report.the-variants as report
+
+-- A number, and the values beside it.
+pub record Answer : Type 0 where
+  pub number : ℕ
+  pub values : List ℕ
+
+-- Done is 0 and the values; a refusal is its number, and a zero for each value.
+abbrev pub answered : Check → List ℕ → Answer
+answered Clear vs = record { number = 0; values = vs }
+answered (Refused r) vs = record { number = numberOf r; values = map (λ v. 0) vs }
+
+-- Open and round have no values.
+abbrev pub openingAnswer : Opening → Answer
+openingAnswer opening.Done = record { number = 0; values = [] }
+openingAnswer (opening.Refused r) = record { number = numberOf r; values = [] }
+
+abbrev pub roundingAnswer : Rounding → Answer
+roundingAnswer rounding.Done = record { number = 0; values = [] }
+roundingAnswer (rounding.Refused r) = record { number = numberOf r; values = [] }
+
+-- Add and remove: the idle leaves left.
+abbrev pub changeAnswer : Change → Answer
+changeAnswer (change.Done idle) = record { number = 0; values = idle ∷ [] }
+changeAnswer (change.Refused r) = record { number = numberOf r; values = 0 ∷ [] }
+
+-- Slot: the name, the leaf, the terms passed over.
+abbrev pub servingAnswer : Serving → Answer
+servingAnswer (serving.Slot name leaf passed) = record { number = 0; values = name ∷ leaf ∷ passed ∷ [] }
+servingAnswer (serving.Refused r) = record { number = numberOf r; values = 0 ∷ 0 ∷ 0 ∷ [] }
+
+-- Report: weight, number of pieces, spacing.
+abbrev pub reportAnswer : Report → Answer
+reportAnswer (report.Stream weight pieces spacing) = record { number = 0; values = weight ∷ pieces ∷ spacing ∷ [] }
+reportAnswer (report.Refused r) = record { number = numberOf r; values = 0 ∷ 0 ∷ 0 ∷ [] }

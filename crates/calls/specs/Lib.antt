@@ -1,0 +1,5 @@
+pub mod Records
+pub mod Refusals
+pub mod Answers
+pub mod Results
+pub mod Promises

@@ -1,0 +1,159 @@
+-- What each call returns and what it leaves in each slice that it was lent, for every input: document 01, "Calls and refusal numbers".
+-- A refused call gives back the record that it was given (open, one with C and p zero) and leaves every slice as it was.
+-- Assumes nothing.
+use mathlib.Core.List.{List, [], _∷_, _++_, map}
+use Prim.Native.Nat.{ℕ, _+_, _-_, _/_}
+use lib.ListN.{length, getD, drop, replicate}
+use Rattle.sequences.specs.Board.{leafAt, passedFrom, servedFrom, nextFrom}
+use Rattle.sequences.specs.Serving.{leavesFrom}
+use Rattle.pieces.specs.Board.{weight, number}
+use Rattle.pieces.specs.Placing as placing
+use Rattle.pieces.specs.Tidying as tidying
+use Rattle.calls.specs.Records.{driveAt, movedTo}
+use Rattle.calls.specs.Answers.{Answer, answered}
+use Rattle.calls.specs.Refusals.{openCheck, addCheck, removeCheck, slotCheck, roundCheck, reportCheck}
+use Rattle.calls.specs.declared.Drive.{Drive}
+use Rattle.calls.specs.declared.Check.{Check}
+use Rattle.calls.specs.declared.Check.the-variants.{Clear, Refused}
+use Rattle.calls.specs.declared.Opened.{Opened}
+use Rattle.calls.specs.declared.Opening.{Opening}
+use Rattle.calls.specs.declared.Opening.the-variants as opening
+use Rattle.calls.specs.declared.Changed.{Changed}
+use Rattle.calls.specs.declared.Change.{Change}
+use Rattle.calls.specs.declared.Change.the-variants as change
+use Rattle.calls.specs.declared.Served.{Served}
+use Rattle.calls.specs.declared.Serving.{Serving}
+use Rattle.calls.specs.declared.Serving.the-variants as serving
+use Rattle.calls.specs.declared.Rounded.{Rounded}
+use Rattle.calls.specs.declared.Rounding.{Rounding}
+use Rattle.calls.specs.declared.Rounding.the-variants as rounding
+use Rattle.calls.specs.declared.Reported.{Reported}
+use Rattle.calls.specs.declared.Report.{Report}
+use Rattle.calls.specs.declared.Report.the-variants as report
+
+-- What a call that passes its checks gives, or what stands where it is refused.
+abbrev pub ifClear {ℓ} : {A : Type ℓ} → Check → A → A → A
+ifClear Clear done was = done
+ifClear (Refused r) done was = was
+
+-- The answers, by what the checks find.
+abbrev pub openingBy : Check → Opening
+openingBy Clear = opening.Done
+openingBy (Refused r) = opening.Refused r
+
+abbrev pub changeBy : Check → ℕ → Change
+changeBy Clear idle = change.Done idle
+changeBy (Refused r) idle = change.Refused r
+
+abbrev pub servingBy : Check → ℕ → ℕ → ℕ → Serving
+servingBy Clear name leaf passed = serving.Slot name leaf passed
+servingBy (Refused r) name leaf passed = serving.Refused r
+
+abbrev pub roundingBy : Check → Rounding
+roundingBy Clear = rounding.Done
+roundingBy (Refused r) = rounding.Refused r
+
+abbrev pub reportBy : Check → ℕ → ℕ → ℕ → Report
+reportBy Clear weight pieces spacing = report.Stream weight pieces spacing
+reportBy (Refused r) weight pieces spacing = report.Refused r
+
+-- open: C leaves become idle, p = 1.
+abbrev pub opened : ℕ → List ℕ → Opened
+opened C B = record { drive = ifClear (openCheck C B) (driveAt C 1) (driveAt 0 0); answer = openingBy (openCheck C B) }
+
+abbrev pub openedAnswer : ℕ → List ℕ → Answer
+openedAnswer C B = answered (openCheck C B) []
+
+unfoldable pub idleBoard : ℕ → List ℕ → List ℕ
+idleBoard C B = replicate C 0 ++ drop C B
+
+abbrev pub openedBoard : ℕ → List ℕ → List ℕ
+openedBoard C B = let done = idleBoard C B in ifClear (openCheck C B) done B
+
+-- A change that is done, on the board that it leaves: the idle leaves left.
+abbrev pub changedTo : Drive → List ℕ → Changed
+changedTo d B = record { drive = d; answer = change.Done (weight (d .capacity) B 0) }
+
+-- add: the weight is placed; the idle leaves left.
+abbrev pub addedBoard : Drive → List ℕ → ℕ → ℕ → List ℕ
+addedBoard d B x w = let done = placing.placed (d .capacity) B x w in ifClear (addCheck d B x w) done B
+
+abbrev pub addedIdle : Drive → List ℕ → ℕ → ℕ → ℕ
+addedIdle d B x w = weight (d .capacity) (placing.placed (d .capacity) B x w) 0
+
+abbrev pub added : Drive → List ℕ → ℕ → ℕ → Changed
+added d B x w = let idle = addedIdle d B x w in record { drive = d; answer = changeBy (addCheck d B x w) idle }
+
+abbrev pub addedAnswer : Drive → List ℕ → ℕ → ℕ → Answer
+addedAnswer d B x w = let idle = addedIdle d B x w in answered (addCheck d B x w) (idle ∷ [])
+
+-- remove: all leaves of the name become idle, and the board is tidied; the idle leaves left.
+abbrev pub removedBoard : Drive → List ℕ → ℕ → List ℕ
+removedBoard d B x = let done = tidying.removed (d .capacity) B x in ifClear (removeCheck d B x) done B
+
+abbrev pub removedIdle : Drive → List ℕ → ℕ → ℕ
+removedIdle d B x = weight (d .capacity) (tidying.removed (d .capacity) B x) 0
+
+abbrev pub removed : Drive → List ℕ → ℕ → Changed
+removed d B x = let idle = removedIdle d B x in record { drive = d; answer = changeBy (removeCheck d B x) idle }
+
+abbrev pub removedAnswer : Drive → List ℕ → ℕ → Answer
+removedAnswer d B x = let idle = removedIdle d B x in answered (removeCheck d B x) (idle ∷ [])
+
+-- slot: the name, the leaf, the terms passed over; p moves on.
+abbrev pub servedLeaf : Drive → ℕ
+servedLeaf d = leafAt (d .capacity) (servedFrom (d .capacity) (d .position))
+
+abbrev pub servedName : Drive → List ℕ → ℕ
+servedName d B = getD B (servedLeaf d) 0
+
+abbrev pub servedPassed : Drive → ℕ
+servedPassed d = passedFrom (d .capacity) (d .position)
+
+abbrev pub movedOn : Drive → Drive
+movedOn d = movedTo d (nextFrom (d .capacity) (d .position))
+
+abbrev pub served : Drive → List ℕ → Served
+served d B =
+    let name = servedName d B in
+    let leaf = servedLeaf d in
+    let passed = servedPassed d in
+    let next = movedOn d in
+    record { drive = ifClear (slotCheck d B) next d; answer = servingBy (slotCheck d B) name leaf passed }
+
+abbrev pub servedAnswer : Drive → List ℕ → Answer
+servedAnswer d B = answered (slotCheck d B) (servedName d B ∷ servedLeaf d ∷ servedPassed d ∷ [])
+
+-- round: the C names of a full round from p = 1, at the start of the output; p is unchanged.
+unfoldable pub slotNames : ℕ → List ℕ → ℕ → List ℕ
+unfolding leavesFrom
+slotNames C B n = map (λ leaf. getD B leaf 0) (leavesFrom C 1 n)
+
+abbrev pub roundNames : ℕ → List ℕ → List ℕ
+roundNames C B = slotNames C B C
+
+abbrev pub roundedOutput : Drive → List ℕ → List ℕ → List ℕ
+roundedOutput d B O = let done = roundNames (d .capacity) B ++ drop (d .capacity) O in ifClear (roundCheck d B (length O)) done O
+
+abbrev pub rounded : Drive → List ℕ → List ℕ → Rounded
+rounded d B O = record { drive = d; answer = roundingBy (roundCheck d B (length O)) }
+
+abbrev pub roundedAnswer : Drive → List ℕ → List ℕ → Answer
+roundedAnswer d B O = answered (roundCheck d B (length O)) []
+
+-- report: weight, number of pieces, and spacing, which is C/w rounded up.
+abbrev pub spacing : ℕ → ℕ → ℕ
+spacing C w = (C + (w - 1)) / w
+
+abbrev pub reportedSpacing : Drive → List ℕ → ℕ → ℕ
+reportedSpacing d B x = spacing (d .capacity) (weight (d .capacity) B x)
+
+abbrev pub reported : Drive → List ℕ → ℕ → Reported
+reported d B x =
+    let w = weight (d .capacity) B x in
+    let n = number (d .capacity) B x in
+    let s = reportedSpacing d B x in
+    record { drive = d; answer = reportBy (reportCheck d B x) w n s }
+
+abbrev pub reportedAnswer : Drive → List ℕ → ℕ → Answer
+reportedAnswer d B x = answered (reportCheck d B x) (weight (d .capacity) B x ∷ number (d .capacity) B x ∷ reportedSpacing d B x ∷ [])

@@ -1,0 +1,307 @@
+// The calls on one drive's slot board: open, add, remove, slot, round, report, and the refusals of document 01.
+ghost use mathlib.Core.Path.{_≡_};
+ghost use mathlib.Core.List.{_++_};
+ghost use Prim.Native.Nat.{_≤_};
+ghost use lib.ListN.{length, drop};
+ghost use Rattle.sequences.specs.Sequences.{Reversing};
+ghost use Rattle.sequences.specs.Board.{Position};
+ghost use Rattle.calls.specs.Records.{driveAt, movedTo};
+ghost use Rattle.calls.specs.Refusals.{numberOf};
+ghost use Rattle.calls.specs.Results as results;
+ghost use Rattle.calls.specs.Promises as promises;
+
+mod checks;
+
+// The drive record: the capacity C and the position p. Its type owns the limits and the calls.
+#[repr(C)]
+pub struct Drive {
+    pub capacity: u16,
+    pub position: u16,
+}
+
+// The refusals, by the names of document 01's table, in the order of its numbers.
+pub enum Refusal {
+    Capacity,
+    Short,
+    Position,
+    Midround,
+    Damaged,
+    Name,
+    Weight,
+    Taken,
+    Absent,
+    Room,
+    Output,
+    Block,
+}
+
+impl Refusal {
+    // The number of the table.
+    pub fn number(self) -> u16
+        ensures { λ r. ⌜ r ≡ numberOf self ⌝ }
+    {
+        match self {
+            Refusal::Capacity => 1,
+            Refusal::Short => 2,
+            Refusal::Position => 3,
+            Refusal::Midround => 4,
+            Refusal::Damaged => 5,
+            Refusal::Name => 6,
+            Refusal::Weight => 7,
+            Refusal::Taken => 8,
+            Refusal::Absent => 9,
+            Refusal::Room => 10,
+            Refusal::Output => 11,
+            Refusal::Block => 12,
+        }
+    }
+}
+
+// What the checks before a call find.
+pub enum Check {
+    Clear,
+    Refused(Refusal),
+}
+
+// The answer of open.
+pub enum Opening {
+    Done,
+    Refused(Refusal),
+}
+
+pub struct Opened {
+    pub drive: Drive,
+    pub answer: Opening,
+}
+
+// The answer of add and of remove: the idle leaves left.
+pub enum Change {
+    Done(u16),
+    Refused(Refusal),
+}
+
+pub struct Changed {
+    pub drive: Drive,
+    pub answer: Change,
+}
+
+// The answer of slot.
+pub enum Serving {
+    Slot { name: u16, leaf: u16, passed: u16 },
+    Refused(Refusal),
+}
+
+pub struct Served {
+    pub drive: Drive,
+    pub answer: Serving,
+}
+
+// The answer of round.
+pub enum Rounding {
+    Done,
+    Refused(Refusal),
+}
+
+pub struct Rounded {
+    pub drive: Drive,
+    pub answer: Rounding,
+}
+
+// The answer of report.
+pub enum Report {
+    Stream {
+        weight: u16,
+        pieces: u16,
+        spacing: u16,
+    },
+    Refused(Refusal),
+}
+
+pub struct Reported {
+    pub drive: Drive,
+    pub answer: Report,
+}
+
+impl Drive {
+    // The largest capacity.
+    pub const LARGEST: usize = 4095;
+
+    // How many leaves a block of a sheet has.
+    pub const LEAVES_PER_BLOCK: usize = 253;
+
+    // The one place that makes a record.
+    fn new(capacity: u16, position: u16) -> Drive
+        ensures { λ r. ⌜ r ≡ driveAt capacity position ⌝ }
+    {
+        Drive { capacity, position }
+    }
+
+    // The one place that moves a record.
+    fn moved(mut self, position: u16) -> Drive
+        ensures { λ r. ⌜ r ≡ movedTo self position ⌝ }
+    {
+        self.position = position;
+        self
+    }
+
+    // A change that is done: the idle leaves left are counted.
+    fn counted(self, board: &[u16]) -> Changed
+        requires { ⌜ (self .capacity ≤ length (now board)) × (self .capacity ≤ 4095) ⌝ }
+        ensures { λ r. ⌜ r ≡ results.changedTo self (now (board .entry)) ⌝ }
+    {
+        let idle = pieces::weigh(board, self.capacity as usize, 0);
+        Changed {
+            drive: self,
+            answer: Change::Done(idle as u16),
+        }
+    }
+
+    // Opens a board: its leaves become idle, and the record stands at the start of a round.
+    pub fn open(capacity: u16, board: &mut [u16]) -> Opened
+        ensures { λ r. ⌜ promises.Opens capacity (now (board .entry)) r (now (board .exit)) ⌝ }
+    {
+        let c = capacity as usize;
+        match checks::check_open(c, board) {
+            Check::Refused(r) => Opened {
+                drive: Drive::new(0, 0),
+                answer: Opening::Refused(r),
+            },
+            Check::Clear => {
+                make_idle(board, c);
+                Opened {
+                    drive: Drive::new(capacity, 1),
+                    answer: Opening::Done,
+                }
+            }
+        }
+    }
+
+    // Admits a stream.
+    pub fn add(self, board: &mut [u16], name: u16, weight: u16) -> Changed
+        ensures { λ r. ⌜ promises.Adds self (now (board .entry)) name weight r (now (board .exit)) ⌝ }
+    {
+        match self.check_add(board, name, weight) {
+            Check::Refused(r) => Changed {
+                drive: self,
+                answer: Change::Refused(r),
+            },
+            Check::Clear => {
+                pieces::place(board, self.capacity as usize, name, weight as usize);
+                self.counted(board)
+            }
+        }
+    }
+
+    // Removes a stream.
+    pub fn remove(self, board: &mut [u16], name: u16) -> Changed
+        ensures { λ r. ⌜ promises.Removes self (now (board .entry)) name r (now (board .exit)) ⌝ }
+    {
+        match self.check_remove(board, name) {
+            Check::Refused(r) => Changed {
+                drive: self,
+                answer: Change::Refused(r),
+            },
+            Check::Clear => {
+                pieces::remove(board, self.capacity as usize, name);
+                self.counted(board)
+            }
+        }
+    }
+
+    // Serves the slot at the record's position, and moves the record on.
+    pub fn slot(self, board: &[u16]) -> Served
+        ensures { λ r. ⌜ promises.Serves self (now (board .entry)) r ⌝ }
+    {
+        match self.check_slot(board) {
+            Check::Refused(r) => Served {
+                drive: self,
+                answer: Serving::Refused(r),
+            },
+            Check::Clear => {
+                let s = sequences::pick(self.capacity as usize, self.position as usize);
+                let leaf = s.leaf;
+                Served {
+                    drive: self.moved(s.next as u16),
+                    answer: Serving::Slot {
+                        name: board[leaf],
+                        leaf: leaf as u16,
+                        passed: s.passed as u16,
+                    },
+                }
+            }
+        }
+    }
+
+    // Writes the names of a full round.
+    pub fn round(self, board: &[u16], output: &mut [u16]) -> Rounded
+        ensures { λ r. ⌜ promises.Rounds self (now (board .entry)) (now (output .entry)) r (now (output .exit)) ⌝ }
+    {
+        match self.check_round(board, output.len()) {
+            Check::Refused(r) => Rounded {
+                drive: self,
+                answer: Rounding::Refused(r),
+            },
+            Check::Clear => {
+                let table = sequences::table::time_slots();
+                write_round(&table, board, self.capacity as usize, output);
+                Rounded {
+                    drive: self,
+                    answer: Rounding::Done,
+                }
+            }
+        }
+    }
+
+    // Reports on a stream.
+    pub fn report(self, board: &[u16], name: u16) -> Reported
+        ensures { λ r. ⌜ promises.Reports self (now (board .entry)) name r ⌝ }
+    {
+        match self.check_report(board, name) {
+            Check::Refused(r) => Reported {
+                drive: self,
+                answer: Report::Refused(r),
+            },
+            Check::Clear => {
+                let c = self.capacity as usize;
+                let w = pieces::weigh(board, c, name);
+                let spacing = (c + (w - 1)) / w;
+                Reported {
+                    drive: self,
+                    answer: Report::Stream {
+                        weight: w as u16,
+                        pieces: usize::count_ones(w) as u16,
+                        spacing: spacing as u16,
+                    },
+                }
+            }
+        }
+    }
+}
+
+// Makes the first c entries idle.
+fn make_idle(board: &mut [u16], c: usize)
+    requires { ⌜ c ≤ length (now board) ⌝ }
+    ensures { λ _. ⌜ now (board .exit) ≡ results.idleBoard c (now (board .entry)) ⌝ }
+{
+    let mut i: usize = 0;
+    while i < c {
+        board[i] = 0;
+        i += 1;
+    }
+}
+
+// Writes the names of the c slots from position 1 on to the start of the output.
+fn write_round(table: &[u16], board: &[u16], c: usize, output: &mut [u16])
+    requires { ⌜ Reversing (now table) × (Position c 1) × (c ≤ length (now board)) × (c ≤ length (now output)) ⌝ }
+    ensures { λ _. ⌜ now (output .exit) ≡ results.roundNames c (now (board .entry)) ++ drop c (now (output .entry)) ⌝ }
+{
+    let mut p: usize = 1;
+    let mut i: usize = 0;
+    while i < c {
+        let served = sequences::pick_by(table, c, p);
+        let at = served.leaf;
+        output[i] = board[at];
+        p = served.next;
+        i += 1;
+    }
+}
