@@ -1,0 +1,162 @@
+-- The demands, each by its name: demand 1 and the slot order of demand 2 for every call and every input, demand 3 for every history from an opened board.
+-- Assumes nothing.
+use mathlib.Core.Path.{_≡_, refl, sym, ap, _∙_}
+use mathlib.Core.Bool.{true, cond}
+use mathlib.Core.List.{List, [], _∷_, _++_}
+use Prim.Native.Nat.{ℕ, zero, _+_, _-_, _*_, _≤_, _<_}
+use native.Mathlib.Omega.{arith}
+use lib.Count.{ones}
+use lib.Dec.{ltb}
+use lib.ListN.{length, drop}
+use Rattle.sequences.specs.Scanning.{roundLeaves}
+use Rattle.sequences.proofs.Laws.{round-literal}
+use Rattle.pieces.specs.Board.{weight, number}
+use Rattle.pieces.specs.Placing.{placed}
+use Rattle.pieces.specs.Tidying.{removed}
+use Rattle.pieces.proofs.Laws.{pieces-ones}
+use Rattle.calls.specs.declared.Drive.{Drive}
+use Rattle.calls.specs.declared.Check.the-variants.{Clear}
+use Rattle.calls.specs.Records.{driveAt}
+use Rattle.calls.specs.Refusals.{firstOf, asked, askedAdd, askedName, askedOutput, askedOpen, openMay, addMay, removeMay, slotMay, roundMay, reportMay, openCheck, addCheck, removeCheck, slotCheck, roundCheck, reportCheck}
+use Rattle.calls.specs.Results.{ifClear, openedAnswer, idleBoard, addedIdle, removedIdle, servedName, servedLeaf, servedPassed, movedOn, slotNames, roundNames, reportedSpacing}
+use Rattle.demands.specs.Histories.{Act, Add, Remove, Slot, Round, Report, State, Openable, does, says, opens, reach}
+use Rattle.demands.specs.Refusing.{mayAnswer, answers, lent, writes, zeros, otherChecks}
+use Rattle.demands.specs.Holdings.{isChange, held, heldOf, total}
+use Rattle.demands.specs.Rounds.{namesFrom, FullRound, inARow, times, namesOn, Near, bound, demanded}
+use Rattle.demands.proofs.Checks.{clash}
+use Rattle.demands.proofs.Answering.{by-first, clear-number, done-idle}
+use Rattle.demands.proofs.Valid.{Valid, stateAt, slot-clear, clear-valid}
+use Rattle.demands.proofs.Reached.{Reached, after-one, always}
+use Rattle.demands.proofs.Rows.{full-names}
+use Rattle.demands.proofs.Standing.{never-damaged, midround, others-pass, room, served-round, served-fair}
+
+-- ---- Demand 1
+
+-- Every call answers 0 or a number of its list. Refused, it gives back the record, the board and the output as they were, and zeros for values.
+pub demand-1 : (a : Act) (s : State)
+    → (answers (mayAnswer a) (says a s .number) ≡ true)
+    × ((says a s .number ≡ 0 → ⊥) → (does a s ≡ s) × (writes a s ≡ lent a) × (says a s .values ≡ zeros (says a s .values)))
+unfolding addCheck removeCheck slotCheck roundCheck reportCheck
+demand-1 (Add x w) s =
+    let d = s .drive in
+    let B = s .board in
+    let done = placed (d .capacity) B x w in
+    by-first addMay (askedAdd d B x w) (addedIdle d B x w ∷ []) (λ c. record { drive = d; board = ifClear c done B } ≡ s) (λ c. lent (Add x w) ≡ []) (λ r. refl) (λ r. refl)
+demand-1 (Remove x) s =
+    let d = s .drive in
+    let B = s .board in
+    let done = removed (d .capacity) B x in
+    by-first removeMay (askedName d B x) (removedIdle d B x ∷ []) (λ c. record { drive = d; board = ifClear c done B } ≡ s) (λ c. lent (Remove x) ≡ []) (λ r. refl) (λ r. refl)
+demand-1 Slot s =
+    let d = s .drive in
+    let B = s .board in
+    by-first slotMay (asked d B) (servedName d B ∷ servedLeaf d ∷ servedPassed d ∷ []) (λ c. record { drive = ifClear c (movedOn d) d; board = B } ≡ s) (λ c. lent Slot ≡ []) (λ r. refl) (λ r. refl)
+demand-1 (Round O) s =
+    let d = s .drive in
+    let B = s .board in
+    let done = roundNames (d .capacity) B ++ drop (d .capacity) O in
+    by-first roundMay (askedOutput d B (length O) (d .capacity)) [] (λ c. s ≡ s) (λ c. ifClear c done O ≡ O) (λ r. refl) (λ r. refl)
+demand-1 (Report x) s =
+    let d = s .drive in
+    let B = s .board in
+    by-first reportMay (askedName d B x) (weight (d .capacity) B x ∷ number (d .capacity) B x ∷ reportedSpacing d B x ∷ []) (λ c. s ≡ s) (λ c. lent (Report x) ≡ []) (λ r. refl) (λ r. refl)
+
+-- So does open; refused, it gives a record with C and p zero, and the board as it was.
+pub demand-1-open : (C : ℕ) (B : List ℕ)
+    → (answers openMay (openedAnswer C B .number) ≡ true) × ((openedAnswer C B .number ≡ 0 → ⊥) → opens C B ≡ record { drive = driveAt 0 0; board = B })
+unfolding openCheck
+demand-1-open C B =
+    let done = idleBoard C B in
+    let t = by-first openMay (askedOpen C B) [] (λ c. record { drive = ifClear c (driveAt C 1) (driveAt 0 0); board = ifClear c done B } ≡ stateAt 0 0 B) (λ c. C ≡ C) (λ r. refl) (λ r. refl) in
+    (t .0, λ n. t .1 n .0)
+
+-- ---- Demand 2, the slot order
+
+-- On any board, good or not, where slot is not refused: a full round serves the names on the leaves that G-3's two sequences give, in their order.
+pub demand-2-order : (s : State) (rest : List Act) → says Slot s .number ≡ 0 → FullRound s rest → namesFrom s rest ≡ namesOn (s .board) (roundLeaves (s .drive .capacity))
+demand-2-order s rest clear full =
+    let d = s .drive in
+    let B = s .board in
+    let C = d .capacity in
+    let is : Valid C (d .position) B = clear-valid C (d .position) B (clear-number (slotCheck d B) (servedName d B ∷ servedLeaf d ∷ servedPassed d ∷ []) clear) in
+    full-names C (d .position) B rest is full ∙ ap (namesOn B) (round-literal C (is .at .some) (is .at .few))
+
+-- So are the names that round writes.
+pub demand-2-round : (C : ℕ) (B : List ℕ) → zero < C → C ≤ 4095 → roundNames C B ≡ namesOn B (roundLeaves C)
+unfolding slotNames
+demand-2-round C B some few = ap (namesOn B) (round-literal C some (omega arith))
+
+-- ---- Demand 3, for every capacity 1 to 4,095, every slice that is long enough and every list of acts from the opened board
+
+module _ (C : ℕ) (B : List ℕ) (may : Openable C B) (acts : List Act) where
+  r : Reached C (reach C B acts) (held C B acts)
+  r = always C B may acts
+
+  idle-after : (a : Act) → weight (reach C B acts .drive .capacity) (does a (reach C B acts) .board) 0 ≡ C - total (held C B (acts ++ (a ∷ [])))
+  idle-after a =
+      let q = always C B may (acts ++ (a ∷ [])) in
+      let e : does a (reach C B acts) ≡ stateAt C (q .p) (q .B) = sym (after-one (opens C B) acts a) ∙ q .is in
+      let c : reach C B acts .drive .capacity ≡ C = ap (λ (t : State). t .drive .capacity) (r .is) in
+      let i = q .holds .idle in
+      rw (e, c) (omega arith)
+
+  -- No answer is DAMAGED,
+  pub demand-3-undamaged : (a : Act) → says a (reach C B acts) .number ≡ 5 → ⊥
+  demand-3-undamaged = rw (r .is) (never-damaged C (r .p) (r .B) (held C B acts) (r .holds))
+
+  -- and no slot is refused.
+  pub demand-3-slot : says Slot (reach C B acts) .number ≡ 0
+  demand-3-slot = rw (r .is) (rw (slot-clear C (r .p) (r .B) (r .holds .valid)) refl)
+
+  -- Within a round an add and a remove are refused for MIDROUND, and change nothing.
+  pub demand-3-midround : (a : Act) → isChange a ≡ true → (reach C B acts .drive .position ≡ 1 → ⊥) → (says a (reach C B acts) .number ≡ 4) × (does a (reach C B acts) ≡ reach C B acts)
+  demand-3-midround = rw (r .is) (midround C (r .p) (r .B) (held C B acts) (r .holds))
+
+  -- An add that passes the other checks is refused for ROOM exactly when its weight exceeds C less the sum of the weights held; else it is done.
+  pub demand-3-room : (x w : ℕ) → firstOf otherChecks (askedAdd (reach C B acts .drive) (reach C B acts .board) x w) ≡ Clear
+      → says (Add x w) (reach C B acts) .number ≡ cond (ltb (C - total (held C B acts)) w) 10 0
+  demand-3-room = rw (r .is) (room C (r .p) (r .B) (held C B acts) (r .holds))
+
+  -- At the start of a round an add passes the other checks if it has a name and a weight, and nothing is held of the name.
+  pub demand-3-others : (x w : ℕ) → reach C B acts .drive .position ≡ 1 → (x ≡ 0 → ⊥) → (w ≡ 0 → ⊥) → heldOf x (held C B acts) ≡ 0
+      → firstOf otherChecks (askedAdd (reach C B acts .drive) (reach C B acts .board) x w) ≡ Clear
+  demand-3-others = rw (r .is) (others-pass C (r .p) (r .B) (held C B acts) (r .holds))
+
+  -- What is held of a name is the number of its leaves,
+  pub demand-3-held : (x : ℕ) → (x ≡ 0 → ⊥) → heldOf x (held C B acts) ≡ weight C (reach C B acts .board) x
+  demand-3-held x named = rw (r .is) (sym (r .holds .names x named))
+
+  -- in as many pieces as the weight has ones,
+  pub demand-3-pieces : (x : ℕ) → (x ≡ 0 → ⊥) → number C (reach C B acts .board) x ≡ ones (heldOf x (held C B acts))
+  demand-3-pieces x named = rw (r .is) (pieces-ones C (r .B) x (may .few) (r .holds .fine) ∙ ap ones (r .holds .names x named))
+
+  -- and the idle number that an add or a remove returns is C less the sum held after it.
+  pub demand-3-idle : (a : Act) → isChange a ≡ true → says a (reach C B acts) .number ≡ 0 → says a (reach C B acts) .values ≡ (C - total (held C B (acts ++ (a ∷ [])))) ∷ []
+  demand-3-idle a = go a
+    where
+      d : Drive
+      d = reach C B acts .drive
+
+      B' : List ℕ
+      B' = reach C B acts .board
+
+      go : (a : Act) → isChange a ≡ true → says a (reach C B acts) .number ≡ 0 → says a (reach C B acts) .values ≡ (C - total (held C B (acts ++ (a ∷ [])))) ∷ []
+      go (Add x w) e h = done-idle (d .capacity) (placed (d .capacity) B' x w) B' (addCheck d B' x w) h ∙ ap (λ (n : ℕ). n ∷ []) (idle-after (Add x w))
+      go (Remove x) e h = done-idle (d .capacity) (removed (d .capacity) B' x) B' (removeCheck d B' x) h ∙ ap (λ (n : ℕ). n ∷ []) (idle-after (Remove x))
+      go Slot e h = clash e refl
+      go (Round O) e h = clash e refl
+      go (Report x) e h = clash e refl
+
+  -- In each full round a name is served as often as the weight that it holds at the round's first slot.
+  pub demand-3-round : (rest : List Act) → FullRound (reach C B acts) rest → (x : ℕ) → (x ≡ 0 → ⊥) → times x (namesFrom (reach C B acts) rest) ≡ heldOf x (held C B acts)
+  demand-3-round = rw (r .is) (served-round C (r .p) (r .B) (held C B acts) (r .holds))
+
+  -- In any t successive slots of that round a stream of weight w is served s times, and C s and w t differ by less than m C + w h,
+  pub demand-3-fair : (rest : List Act) → FullRound (reach C B acts) rest → (x w i t : ℕ) → heldOf x (held C B acts) ≡ w → zero < w → i + t ≤ C
+      → Near (C * times x (inARow i t (namesFrom (reach C B acts) rest))) (w * t) (bound C w)
+  demand-3-fair = rw (r .is) (served-fair C (r .p) (r .B) (held C B acts) (r .holds))
+
+  -- so by less than the demand's own 2 m C + w h.
+  pub demand-3-demanded : (rest : List Act) → FullRound (reach C B acts) rest → (x w i t : ℕ) → heldOf x (held C B acts) ≡ w → zero < w → i + t ≤ C
+      → Near (C * times x (inARow i t (namesFrom (reach C B acts) rest))) (w * t) (demanded C w)
+  demand-3-demanded rest full x w i t holds some within = let f = demand-3-fair rest full x w i t holds some within in omega arith

@@ -1,0 +1,58 @@
+-- One history, computed: what demand 3 speaks of happens, with these numbers. C = 11, on a longer slice.
+-- Assumes nothing.
+use mathlib.Core.Path.{_≡_, refl}
+use mathlib.Core.Bool.{Bool, true, _&&_}
+use mathlib.Core.List.{List, [], _∷_, _++_, map}
+use Prim.Native.Nat.{ℕ, _+_, _*_}
+use native.Mathlib.Omega.{arith}
+use lib.Count.{ones, onesIn}
+use lib.Dec.{ltb}
+use lib.ListN.{replicate}
+use Rattle.sequences.specs.Board.{leafAt, nextFrom}
+use Rattle.sequences.specs.Serving.{countList}
+use Rattle.pieces.specs.Board.{uniform, whole, pieces, weight, nth, single, sound, sum}
+use Rattle.pieces.specs.Placing.{fill, first, fit, spot, put, place}
+use Rattle.pieces.specs.Tidying.{copy, move, twin, join, pair, step, tidy, clear}
+use Rattle.calls.specs.Refusals.{openCheck, addCheck, removeCheck, slotCheck, reportCheck}
+use Rattle.calls.specs.Results.{idleBoard}
+use Rattle.demands.specs.Histories.{Act, Add, Remove, Slot, Report, Openable, opens, after, reach, log}
+use Rattle.demands.specs.Holdings.{without, heldFrom, held}
+use Rattle.demands.specs.Rounds.{names, namesFrom, FullRound, inARow, times, bound}
+
+-- a and b differ by less than d, as a test
+abbrev near : ℕ → ℕ → ℕ → Bool
+near a b d = ltb a (b + d) && ltb b (a + d)
+
+abbrev board : List ℕ
+board = replicate 13 9
+
+-- a stream of weight 8, one that has no room, one of weight 2, one that is taken
+abbrev early : List Act
+early = Add 7 8 ∷ Add 2 4 ∷ Add 2 2 ∷ Add 7 1 ∷ []
+
+-- after the first slot of a round: ten slots, and between them changes that are refused
+abbrev rest : List Act
+rest = Remove 7 ∷ Slot ∷ Slot ∷ Add 5 1 ∷ Slot ∷ Slot ∷ Slot ∷ Slot ∷ Report 7 ∷ Slot ∷ Slot ∷ Slot ∷ Slot ∷ []
+
+-- that round, then a stream removed, one that is absent, no name, no weight, and a stream that fills the board
+abbrev later : List Act
+later = early ++ (Slot ∷ rest) ++ (Remove 2 ∷ Remove 2 ∷ Add 0 1 ∷ Add 3 0 ∷ Add 3 3 ∷ [])
+
+opened : Openable 11 board
+opened = record { some = omega arith; few = omega arith; long = omega arith }
+
+-- The numbers answered, two rounds in all; what is held at the first slot of each round; both rounds are full; and the names that the first serves, stream 7 eight
+-- times. In its seven slots from slot 2 on that stream is served four times, so that C s = 44 and w t = 56 differ by more than m C = 11, and by less than the bound.
+history :
+    (map (λ e. e .answer .number) (log (opens 11 board) (later ++ (Slot ∷ rest)))
+    ≡ (0 ∷ 10 ∷ 0 ∷ 8 ∷ []) ++ (0 ∷ 4 ∷ 0 ∷ 0 ∷ 4 ∷ 0 ∷ 0 ∷ 0 ∷ 0 ∷ 0 ∷ 0 ∷ 0 ∷ 0 ∷ 0 ∷ []) ++ (0 ∷ 9 ∷ 6 ∷ 7 ∷ 0 ∷ []) ++ (0 ∷ 4 ∷ 0 ∷ 0 ∷ 4 ∷ 0 ∷ 0 ∷ 0 ∷ 0 ∷ 0 ∷ 0 ∷ 0 ∷ 0 ∷ 0 ∷ []))
+    × (held 11 board early ≡ record { name = 2; weight = 2 } ∷ record { name = 7; weight = 8 } ∷ [])
+    × (held 11 board later ≡ record { name = 3; weight = 3 } ∷ record { name = 7; weight = 8 } ∷ [])
+    × FullRound (reach 11 board early) rest
+    × FullRound (reach 11 board later) rest
+    × (namesFrom (reach 11 board early) rest ≡ 7 ∷ 7 ∷ 2 ∷ 7 ∷ 7 ∷ 0 ∷ 7 ∷ 7 ∷ 2 ∷ 7 ∷ 7 ∷ [])
+    × (times 7 (namesFrom (reach 11 board early) rest) ≡ 8)
+    × (times 7 (inARow 2 7 (namesFrom (reach 11 board early) rest)) ≡ 4)
+    × (near (11 * 4) (8 * 7) (bound 11 8) ≡ true)
+unfolding log after names heldFrom without openCheck addCheck removeCheck slotCheck reportCheck idleBoard uniform whole pieces weight nth single sound sum fill first fit spot put place copy move twin join pair step tidy clear leafAt nextFrom countList ones onesIn
+history = (refl, refl, refl, record { first = refl; slots = refl }, record { first = refl; slots = refl }, refl, refl, refl, refl)

@@ -1,0 +1,11 @@
+pub mod Windows
+pub mod Streams
+pub mod Checks
+pub mod Answering
+pub mod Valid
+pub mod Reached
+pub mod Rows
+pub mod Standing
+pub mod Promised
+pub mod Demands
+pub mod Examples

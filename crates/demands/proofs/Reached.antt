@@ -1,0 +1,211 @@
+-- What holds of every record and board that calls from an opened board lead to: the board is good, and what is held is on it.
+-- Assumes nothing.
+use mathlib.Core.Path.{_≡_, refl, sym, _∙_}
+use mathlib.Core.Bool.{Bool, true, false, cond}
+use mathlib.Core.List.{List, [], _∷_, _++_}
+use Prim.Native.Nat.{ℕ, zero, suc, _+_, _≤_, _<_}
+use native.Mathlib.Omega.{arith}
+use native.Mathlib.Decide.{ℕ-discrete}
+use lib.Dec.{eqb}
+use lib.ListN.{length, getD, drop, replicate, length-append, length-replicate, getD-replicate, List·getD-append}
+use borrow.Author.Tests.{eq-eqb, ne-eqb, eqb-true, eqb-false, le-ltb, ltb-false}
+use Rattle.sequences.specs.Board.{nextFrom}
+use Rattle.sequences.proofs.Laws.{first-position}
+use Rattle.pieces.specs.Board.{good, weight}
+use Rattle.pieces.specs.Placing.{Placeable, placed}
+use Rattle.pieces.specs.Tidying.{Removable, removed}
+use Rattle.pieces.proofs.Laws.{opened-good, placed-good, placed-weight, placed-idle, placed-others, placed-length, removed-good, removed-name, removed-idle, removed-others, removed-length}
+use Rattle.calls.specs.declared.Refusal.the-variants.{Capacity, Short, Name, Taken, Room}
+use Rattle.calls.specs.declared.Check.{Check}
+use Rattle.calls.specs.declared.Check.the-variants.{Clear, Refused}
+use Rattle.calls.specs.Records.{driveAt}
+use Rattle.calls.specs.Refusals.{addMay, removeMay, applies, askedAdd, askedName, askedOpen, openCheck, addCheck, removeCheck}
+use Rattle.calls.specs.Results.{idleBoard}
+use Rattle.demands.specs.Histories.{Act, Add, Remove, Slot, Round, Report, State, Openable, does, says, after, reach, log}
+use Rattle.demands.specs.Refusing.{listed}
+use Rattle.demands.specs.Holdings.{Stream, without, changed, heldFrom, held, heldOf, total}
+use Rattle.demands.proofs.Checks.{number-some, none-applies, clear-of}
+use Rattle.demands.proofs.Valid.{Valid, stateAt, slot-clear, valid-next}
+
+-- The board is good, and every name has as many leaves as it holds.
+pub record Sound (C p : ℕ) (B : List ℕ) (hs : List Stream) : Type 0 where
+  pub valid : Valid C p B
+  pub fine : good C B ≡ true
+  pub idle : weight C B 0 + total hs ≡ C
+  pub names : (x : ℕ) → (x ≡ 0 → ⊥) → weight C B x ≡ heldOf x hs
+  pub nameless : heldOf 0 hs ≡ 0
+
+pub record Reached (C : ℕ) (s : State) (hs : List Stream) : Type 0 where
+  pub p : ℕ
+  pub B : List ℕ
+  pub is : s ≡ stateAt C p B
+  pub holds : Sound C p B hs
+
+-- what is held after one act
+abbrev next : Act → State → List Stream → List Stream
+next a s hs = cond (eqb (says a s .number) 0) (changed a hs) hs
+
+-- ---- the streams of other names
+
+without-total : (x : ℕ) (hs : List Stream) → total (without x hs) + heldOf x hs ≡ total hs
+unfolding without total heldOf
+without-total x [] = refl
+without-total x (h ∷ hs) = go (eqb (h .name) x) refl (without-total x hs)
+  where
+    go : (b : Bool) → eqb (h .name) x ≡ b → total (without x hs) + heldOf x hs ≡ total hs → total (cond b (without x hs) (h ∷ without x hs)) + (cond b (h .weight) 0 + heldOf x hs) ≡ h .weight + total hs
+    go true e ih = omega arith
+    go false e ih = omega arith
+
+without-name : (x : ℕ) (hs : List Stream) → heldOf x (without x hs) ≡ 0
+unfolding without heldOf
+without-name x [] = refl
+without-name x (h ∷ hs) = go (eqb (h .name) x) refl (without-name x hs)
+  where
+    go : (b : Bool) → eqb (h .name) x ≡ b → heldOf x (without x hs) ≡ 0 → heldOf x (cond b (without x hs) (h ∷ without x hs)) ≡ 0
+    go true e ih = ih
+    go false e ih = rw e (omega arith)
+
+without-other : (x y : ℕ) (hs : List Stream) → (y ≡ x → ⊥) → heldOf y (without x hs) ≡ heldOf y hs
+unfolding without heldOf
+without-other x y [] n = refl
+without-other x y (h ∷ hs) n = go (eqb (h .name) x) refl (without-other x y hs n)
+  where
+    go : (b : Bool) → eqb (h .name) x ≡ b → heldOf y (without x hs) ≡ heldOf y hs → heldOf y (cond b (without x hs) (h ∷ without x hs)) ≡ cond (eqb (h .name) y) (h .weight) 0 + heldOf y hs
+    go true e ih = rw (ne-eqb (h .name) y (λ q. n (sym q ∙ eqb-true (h .name) x e))) (omega arith)
+    go false e ih = omega arith
+
+-- ---- one act
+
+same-either : (b : Bool) (hs : List Stream) → cond b hs hs ≡ hs
+same-either true hs = refl
+same-either false hs = refl
+
+module _ (C p : ℕ) (B : List ℕ) (hs : List Stream) (is : Sound C p B hs) where
+  small : C ≤ 4095
+  small = let l = is .valid .at .few in omega arith
+
+  add-needs : (x w : ℕ) → addCheck (driveAt C p) B x w ≡ Clear → Placeable C B x w
+  unfolding addCheck applies listed
+  add-needs x w e =
+      let clear = clear-of (askedAdd (driveAt C p) B x w) addMay e in
+      let t = ltb-false 0 (weight C B x) (clear Taken refl) in
+      let r = ltb-false (weight C B 0) w (clear Room refl) in
+      record { small = small; long = is .valid .long; sound = is .fine; named = eqb-false x 0 (clear Name refl); absent = omega arith; room = omega arith }
+
+  remove-needs : (x : ℕ) → removeCheck (driveAt C p) B x ≡ Clear → Removable C B x
+  unfolding removeCheck applies listed
+  remove-needs x e =
+      record { small = small; long = is .valid .long; sound = is .fine; named = eqb-false x 0 (clear-of (askedName (driveAt C p) B x) removeMay e Name refl) }
+
+  added : (x w : ℕ) → Placeable C B x w → Sound C p (placed C B x w) (changed (Add x w) hs)
+  unfolding total heldOf
+  added x w m =
+      let i = placed-idle C B x w m in
+      let j = is .idle in
+      record {
+        valid = record { at = is .valid .at; long = let l = placed-length C B x w m in let k = is .valid .long in omega arith };
+        fine = placed-good C B x w m;
+        idle = omega arith;
+        names = λ y n. elim (ℕ-discrete y x) [
+          | yes r ↦ rw (r, eq-eqb x x refl) (let a = is .names x (m .named) in let b = m .absent in let c = placed-weight C B x w m in omega arith)
+          | no r ↦ rw (ne-eqb x y (λ q. r (sym q))) (let a = is .names y n in let c = placed-others C B x w m y n r in omega arith)
+        ];
+        nameless = rw (ne-eqb x 0 (m .named)) (let z = is .nameless in omega arith);
+      }
+
+  cleared : (x : ℕ) → Removable C B x → Sound C p (removed C B x) (changed (Remove x) hs)
+  cleared x m =
+      let i = removed-idle C B x m in
+      let j = is .idle in
+      let k = without-total x hs in
+      let l = is .names x (m .named) in
+      record {
+        valid = record { at = is .valid .at; long = let l = removed-length C B x m in let k = is .valid .long in omega arith };
+        fine = removed-good C B x m;
+        idle = omega arith;
+        names = λ y n. elim (ℕ-discrete y x) [
+          | yes r ↦ rw (r) (removed-name C B x m ∙ sym (without-name x hs))
+          | no r ↦ removed-others C B x m y n r ∙ is .names y n ∙ sym (without-other x y hs r)
+        ];
+        nameless = without-other x 0 hs (λ e. m .named (sym e)) ∙ is .nameless;
+      }
+
+  moved : Sound C (nextFrom C p) B hs
+  moved = record { valid = valid-next C p B (is .valid); fine = is .fine; idle = is .idle; names = is .names; nameless = is .nameless }
+
+  stays : (hs' : List Stream) → hs' ≡ hs → Reached C (stateAt C p B) hs'
+  stays hs' e = record { p = p; B = B; is = refl; holds = rw e is }
+
+  pub step : (a : Act) → Reached C (does a (stateAt C p B)) (next a (stateAt C p B) hs)
+  step (Add x w) = go (addCheck (driveAt C p) B x w) refl
+    where
+      go : (c : Check) → addCheck (driveAt C p) B x w ≡ c → Reached C (does (Add x w) (stateAt C p B)) (next (Add x w) (stateAt C p B) hs)
+      go Clear e = rw e (record { p = p; B = placed C B x w; is = refl; holds = added x w (add-needs x w e) })
+      go (Refused r) e = rw (e, number-some r) (stays hs refl)
+  step (Remove x) = go (removeCheck (driveAt C p) B x) refl
+    where
+      go : (c : Check) → removeCheck (driveAt C p) B x ≡ c → Reached C (does (Remove x) (stateAt C p B)) (next (Remove x) (stateAt C p B) hs)
+      go Clear e = rw e (record { p = p; B = removed C B x; is = refl; holds = cleared x (remove-needs x e) })
+      go (Refused r) e = rw (e, number-some r) (stays hs refl)
+  step Slot = rw (slot-clear C p B (is .valid)) (record { p = nextFrom C p; B = B; is = refl; holds = moved })
+  step (Round O) = stays (next (Round O) (stateAt C p B) hs) (same-either (eqb (says (Round O) (stateAt C p B) .number) 0) hs)
+  step (Report x) = stays (next (Report x) (stateAt C p B) hs) (same-either (eqb (says (Report x) (stateAt C p B) .number) 0) hs)
+
+-- ---- any acts
+
+pub reached : (C p : ℕ) (B : List ℕ) (hs : List Stream) → Sound C p B hs → (acts : List Act) → Reached C (after (stateAt C p B) acts) (heldFrom hs (log (stateAt C p B) acts))
+unfolding after heldFrom log
+reached C p B hs is [] = record { p = p; B = B; is = refl; holds = is }
+reached C p B hs is (a ∷ acts) =
+    let r = step C p B hs is a in
+    rw (r .is) (reached C (r .p) (r .B) (next a (stateAt C p B) hs) (r .holds) acts)
+
+-- one act more
+pub after-one : (s : State) (acts : List Act) (a : Act) → after s (acts ++ (a ∷ [])) ≡ does a (after s acts)
+unfolding after
+after-one s [] a = refl
+after-one s (b ∷ acts) a = after-one (does b s) acts a
+
+-- ---- the opened board
+
+module _ (C : ℕ) (B : List ℕ) (may : Openable C B) where
+  idle-leaf : (i : ℕ) → i < C → getD (idleBoard C B) i 0 ≡ 0
+  unfolding idleBoard
+  idle-leaf i h =
+      let l = length-replicate {A = ℕ} C 0 in
+      List·getD-append (replicate C 0) (drop C B) 0 i (omega arith) ∙ getD-replicate C i 0 0 h
+
+  idle-weight : (n : ℕ) → n ≤ C → weight n (idleBoard C B) 0 ≡ n
+  unfolding weight
+  idle-weight zero h = refl
+  idle-weight (suc n) h = rw (idle-leaf n h, idle-weight n (omega arith)) (omega arith)
+
+  name-weight : (x n : ℕ) → (x ≡ 0 → ⊥) → n ≤ C → weight n (idleBoard C B) x ≡ 0
+  unfolding weight
+  name-weight x zero named h = refl
+  name-weight x (suc n) named h = rw (idle-leaf n h, ne-eqb 0 x (λ e. named (sym e)), name-weight x n named (omega arith)) refl
+
+  idle-long : C ≤ length (idleBoard C B)
+  unfolding idleBoard
+  idle-long = omega (arith, length-append (replicate C 0) (drop C B), length-replicate {A = ℕ} C 0)
+
+  opened : Sound C 1 (idleBoard C B) []
+  unfolding total heldOf
+  opened = record {
+    valid = record { at = first-position C (may .some) (let f = may .few in omega arith); long = idle-long };
+    fine = opened-good C (idleBoard C B) (may .few) idle-leaf;
+    idle = let w = idle-weight C (omega arith) in omega arith;
+    names = λ x named. name-weight x C named (omega arith);
+    nameless = refl;
+  }
+
+  open-clear : openCheck C B ≡ Clear
+  unfolding openCheck applies
+  open-clear =
+      let a = may .some in
+      let b = may .few in
+      none-applies (askedOpen C B) Capacity (Short ∷ []) (rw (ne-eqb C 0 (λ e. omega arith), le-ltb 4095 C (omega arith)) refl)
+      (none-applies (askedOpen C B) Short [] (le-ltb (length B) C (may .long)) refl)
+
+  pub always : (acts : List Act) → Reached C (reach C B acts) (held C B acts)
+  always acts = rw open-clear (reached C 1 (idleBoard C B) [] opened acts)

@@ -1,0 +1,172 @@
+-- How often a stream is served on a good board: in slots in a row of a round, and in a whole round.
+-- Assumes nothing.
+use mathlib.Core.Path.{_≡_, refl, ap, ap₂, _∙_}
+use mathlib.Core.Bool.{Bool, true, false, _&&_, and-true, and-false}
+use mathlib.Core.List.{List, [], _∷_}
+use Prim.Native.Nat.{ℕ, zero, suc, _+_, _-_, _*_, _^_, _≤_, _<_}
+use native.Mathlib.Nat.{two-pow-succ}
+use native.Mathlib.Omega.{arith}
+use native.Mathlib.Decide.{decLt, ℕ-discrete}
+use lib.Count.{ones}
+use lib.Dec.{eqb, ltb}
+use lib.ListN.{getD}
+use lib.Pow.{pow-pos}
+use borrow.Author.Tests.{eq-eqb, ne-eqb, le-leb, lt-leb, lt-ltb, le-ltb}
+use Rattle.sequences.specs.Board.{digits}
+use Rattle.sequences.specs.Serving.{one, inRun, leavesFrom, afterSlots, countList}
+use Rattle.sequences.proofs.Laws.{first-position, after-slots-valid, round-once, combine}
+use Rattle.pieces.specs.Board.{good, weight, number}
+use Rattle.pieces.proofs.Laws.{over-pieces, pieces-ones}
+use Rattle.demands.proofs.Windows.{Window, round-window, leaves-within}
+
+-- leaf i holds x
+abbrev pub holds : List ℕ → ℕ → ℕ → Bool
+holds B x i = eqb (getD B i 0) x
+
+-- leaf i holds x and is one of the 2 ^ l leaves from a on
+abbrev holdsIn : List ℕ → ℕ → ℕ → ℕ → ℕ → Bool
+holdsIn B x a l i = inRun a l i && holds B x i
+
+-- ---- counts over a list
+
+count-split : (f g h : ℕ → Bool) (L : List ℕ) → ((i : ℕ) → one (f i) ≡ one (g i) + one (h i)) → countList f L ≡ countList g L + countList h L
+unfolding countList
+count-split f g h [] e = refl
+count-split f g h (i ∷ L) e = omega (arith, e i, count-split f g h L e)
+
+count-none : (L : List ℕ) → countList (λ (i : ℕ). false) L ≡ 0
+unfolding countList
+count-none [] = refl
+count-none (i ∷ L) = omega (arith, count-none L)
+
+-- ---- tests of a leaf
+
+-- a block is its halves
+run-halves : (a l i : ℕ) (b : Bool) → one (inRun a (suc l) i && b) ≡ one (inRun a l i && b) + one (inRun (a + 2 ^ l) l i && b)
+run-halves a l i b =
+    let z = pow-pos l in
+    let w = two-pow-succ l in
+    elim (decLt i a) [
+      | yes p ↦ rw (lt-leb a i p, lt-leb (a + 2 ^ l) i (omega arith)) refl
+      | no p ↦ elim (decLt i (a + 2 ^ l)) [
+        | yes q ↦ rw (le-leb a i (omega arith), lt-ltb i (a + 2 ^ suc l) (omega arith), lt-ltb i (a + 2 ^ l) q, lt-leb (a + 2 ^ l) i q) (omega arith)
+        | no q ↦ elim (decLt i (a + 2 ^ suc l)) [
+          | yes r ↦ rw (le-leb a i (omega arith), lt-ltb i (a + 2 ^ suc l) r, le-ltb i (a + 2 ^ l) (omega arith), le-leb (a + 2 ^ l) i (omega arith), lt-ltb i (a + 2 ^ l + 2 ^ l) (omega arith)) (omega arith)
+          | no r ↦ rw (le-leb a i (omega arith), le-ltb i (a + 2 ^ suc l) (omega arith), le-ltb i (a + 2 ^ l) (omega arith), le-leb (a + 2 ^ l) i (omega arith), le-ltb i (a + 2 ^ l + 2 ^ l) (omega arith)) (omega arith)
+        ]
+      ]
+    ]
+
+-- a single leaf
+run-leaf : (a i : ℕ) (b : Bool) → (i ≡ a → b ≡ false) → (inRun a 0 i && b) ≡ false
+run-leaf a i b h =
+    elim (ℕ-discrete i a) [
+      | yes r ↦ rw (h r) (and-false (inRun a 0 i))
+      | no r ↦ elim (decLt i a) [
+        | yes p ↦ rw (lt-leb a i p) refl
+        | no p ↦ rw (le-leb a i (omega arith), le-ltb i (a + 1) (omega arith)) refl
+      ]
+    ]
+
+-- a test that holds throughout a run
+run-all : (a l i : ℕ) (b : Bool) → (a ≤ i → i < a + 2 ^ l → b ≡ true) → (inRun a l i && b) ≡ inRun a l i
+run-all a l i b h =
+    elim (decLt i a) [
+      | yes p ↦ rw (lt-leb a i p) refl
+      | no p ↦ elim (decLt i (a + 2 ^ l)) [
+        | yes q ↦ rw (h (omega arith) q) (and-true (inRun a l i))
+        | no q ↦ rw (le-leb a i (omega arith), le-ltb i (a + 2 ^ l) (omega arith)) refl
+      ]
+    ]
+
+-- a leaf below suc n is below n, or n
+next-leaf : (n i : ℕ) (f : ℕ → Bool) → one (ltb i (suc n) && f i) ≡ one (ltb i n && f i) + one (eqb i n && f n)
+next-leaf n i f =
+    elim (ℕ-discrete i n) [
+      | yes r ↦ rw (r, lt-ltb n (suc n) (omega arith), le-ltb n n (omega arith), eq-eqb n n refl) (omega arith)
+      | no r ↦ elim (decLt i n) [
+        | yes p ↦ rw (lt-ltb i (suc n) (omega arith), lt-ltb i n p, ne-eqb i n r) (omega arith)
+        | no p ↦ rw (le-ltb i (suc n) (omega arith), le-ltb i n (omega arith), ne-eqb i n r) refl
+      ]
+    ]
+
+-- ---- a name with leaves has a piece
+
+some-piece : (m w C : ℕ) → zero < w → w ≤ m * C → zero < m
+some-piece zero w C h g = omega arith
+some-piece (suc m) w C h g = omega arith
+
+-- a piece has at most C leaves
+has-pieces : (C : ℕ) (B : List ℕ) (x : ℕ) → C ≤ 4095 → zero < weight C B x → zero < number C B x
+has-pieces C B x few held =
+    let most = over-pieces C B x (λ a l. 0) 0 1 C (λ a l. refl) (λ a h. refl) (λ a l multiple fits all. omega arith) few in
+    some-piece (number C B x) (weight C B x) C held (omega arith)
+
+module _ (C : ℕ) (B : List ℕ) (x : ℕ) (some : zero < C) (few : C < 4096) where
+  -- ---- n slots in a row of a round, from slot i on
+  module _ (i n : ℕ) (within : i + n ≤ C) where
+    abbrev L : List ℕ
+    L = leavesFrom C (afterSlots C 1 i) n
+
+    abbrev w : Window C n L
+    w = round-window C some few i n within
+
+    same : (f g : ℕ → Bool) → ((y : ℕ) → y < C → f y ≡ g y) → countList f L ≡ countList g L
+    same f g h = leaves-within C (afterSlots C 1 i) n f g (after-slots-valid C 1 i (first-position C some few)) h
+
+    -- the sum over its pieces, each a run
+    near-blocks : (2 ^ digits C * countList (holdsIn B x 0 12) L ≤ weight C B x * w .over + number C B x * (2 ^ digits C - 1))
+        × (weight C B x * w .over ≤ 2 ^ digits C * countList (holdsIn B x 0 12) L + number C B x * (2 ^ digits C - 1))
+    near-blocks =
+        over-pieces C B x (λ a l. countList (holdsIn B x a l) L) (2 ^ digits C) (w .over) (2 ^ digits C - 1)
+        (λ a l. count-split (holdsIn B x a (suc l)) (holdsIn B x a l) (holdsIn B x (a + 2 ^ l) l) L (λ y. run-halves a l y (holds B x y)))
+        (λ a h. same (holdsIn B x a 0) (λ (y : ℕ). false) (λ y q. run-leaf a y (holds B x y) (λ e. ne-eqb (getD B y 0) x (λ g. h (rw (← e) q) (rw (← e) g)))) ∙ count-none L)
+        (λ a l multiple fits all.
+        let e : countList (holdsIn B x a l) L ≡ countList (inRun a l) L = same (holdsIn B x a l) (inRun a l) (λ y q. run-all a l y (holds B x y) (λ g h. eq-eqb (getD B y 0) x (all y g h))) in
+        let r = w .runs a l multiple fits in
+        let z = pow-pos (digits C) in
+        rw e (omega arith))
+        (omega arith)
+
+    near : (2 ^ digits C * countList (holds B x) L ≤ weight C B x * w .over + number C B x * (2 ^ digits C - 1))
+        × (weight C B x * w .over ≤ 2 ^ digits C * countList (holds B x) L + number C B x * (2 ^ digits C - 1))
+    near =
+        let all : countList (holdsIn B x 0 12) L ≡ countList (holds B x) L = same (holdsIn B x 0 12) (holds B x) (λ y q. rw (le-leb 0 y (omega arith), lt-ltb y 4096 (omega arith)) refl) in
+        rw all at near-blocks
+
+    -- C * s is w * n up to less than m * C + w * h, for the weight w, its ones m and the ones h of C
+    pub stream-fair : good C B ≡ true → zero < weight C B x
+        → (C * countList (holds B x) (leavesFrom C (afterSlots C 1 i) n) < weight C B x * n + (ones (weight C B x) * C + weight C B x * ones C))
+        × (weight C B x * n < C * countList (holds B x) (leavesFrom C (afterSlots C 1 i) n) + (ones (weight C B x) * C + weight C B x * ones C))
+    stream-fair fine held =
+        let K = 2 ^ digits C in
+        let m = number C B x in
+        let r = near in
+        let z = pow-pos (digits C) in
+        let k : K ≡ K - 1 + 1 = omega arith in
+        let d : m * K ≡ m * (K - 1 + 1) = ap (λ (y : ℕ). m * y) k in
+        let one-piece : zero < m = has-pieces C B x (omega arith) held in
+        let t = w .slots in
+        rw (← pieces-ones C B x (omega arith) fine) (combine K C (w .over) (countList (holds B x) L) (weight C B x) m n (ones C) some (omega arith) (omega arith) (t .0) (t .1))
+
+  -- ---- a whole round
+
+  alike : (f g : ℕ → Bool) → ((y : ℕ) → y < C → f y ≡ g y) → countList f (leavesFrom C 1 C) ≡ countList g (leavesFrom C 1 C)
+  alike f g h = leaves-within C 1 C f g (first-position C some few) h
+
+  -- leaf n is served once
+  once : (n : ℕ) → n < C → (b : Bool) → countList (λ (y : ℕ). eqb y n && b) (leavesFrom C 1 C) ≡ one b
+  once n h true = alike (λ (y : ℕ). eqb y n && true) (λ (y : ℕ). eqb y n) (λ y q. and-true (eqb y n)) ∙ round-once C n few h
+  once n h false = alike (λ (y : ℕ). eqb y n && false) (λ (y : ℕ). false) (λ y q. and-false (eqb y n)) ∙ count-none (leavesFrom C 1 C)
+
+  -- of the leaves of a round those below n that hold x are as many as there are on the board
+  round-below : (n : ℕ) → n ≤ C → countList (λ (y : ℕ). ltb y n && holds B x y) (leavesFrom C 1 C) ≡ weight n B x
+  unfolding weight
+  round-below zero h = alike (λ (y : ℕ). ltb y 0 && holds B x y) (λ (y : ℕ). false) (λ y q. rw (le-ltb y 0 (omega arith)) refl) ∙ count-none (leavesFrom C 1 C)
+  round-below (suc n) h =
+      count-split (λ (y : ℕ). ltb y (suc n) && holds B x y) (λ (y : ℕ). ltb y n && holds B x y) (λ (y : ℕ). eqb y n && holds B x n) (leavesFrom C 1 C) (λ y. next-leaf n y (holds B x))
+      ∙ ap₂ (λ (a b : ℕ). a + b) (round-below n (omega arith)) (once n h (holds B x n))
+
+  -- in a whole round a name is served as often as it has leaves
+  pub stream-round : countList (holds B x) (leavesFrom C 1 C) ≡ weight C B x
+  stream-round = alike (holds B x) (λ (y : ℕ). ltb y C && holds B x y) (λ y q. rw (lt-ltb y C q) refl) ∙ round-below C (omega arith)

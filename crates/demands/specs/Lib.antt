@@ -1,0 +1,4 @@
+pub mod Histories
+pub mod Refusing
+pub mod Holdings
+pub mod Rounds
