@@ -130,7 +130,7 @@ impl Drive {
     pub const LEAVES_PER_BLOCK: usize = 253;
 
     // The one place that makes a record.
-    fn new(capacity: u16, position: u16) -> Drive
+    pub fn new(capacity: u16, position: u16) -> Drive
         ensures { λ r. ⌜ r ≡ driveAt capacity position ⌝ }
     {
         Drive { capacity, position }

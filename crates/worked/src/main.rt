@@ -271,10 +271,7 @@ fn carry_out(s: State, line: &[u8], store: &mut [u16], output: &mut [u16]) -> St
             State { drive: d, lent }
         }
         b'l' => State {
-            drive: Drive {
-                capacity: a,
-                position: b,
-            },
+            drive: Drive::new(a, b),
             lent,
         },
         _ => State {
@@ -286,10 +283,7 @@ fn carry_out(s: State, line: &[u8], store: &mut [u16], output: &mut [u16]) -> St
 
 fn play(text: &[u8], store: &mut [u16], output: &mut [u16]) {
     let mut s = State {
-        drive: Drive {
-            capacity: 0,
-            position: 0,
-        },
+        drive: Drive::new(0, 0),
         lent: 0,
     };
     let mut at: usize = 0;

@@ -54,6 +54,9 @@ add-say-entries c = search needs
 say-entries-requires : tie.Need-say-entries-requires
 say-entries-requires c κs = search needs
 
+new-requires : tie.Need-new-requires
+new-requires c κs = search needs
+
 slice-relend-prefix-call : tie.Need-slice-relend-prefix-call
 slice-relend-prefix-call c = search needs
 
@@ -116,6 +119,7 @@ carry-out-spec =
     cast-say-entries
     add-say-entries
     say-entries-requires
+    new-requires
     slice-relend-prefix-call
     slice-aggregate-call
     call-requires

@@ -13,6 +13,9 @@ Inv-loop text store₀ output₀ s₀ at₀ t7 store output s at = (length store
 abbrev μ-loop : tie.MeasureT-loop
 μ-loop text store₀ output₀ s₀ at₀ t7 store output s at = length text - at
 
+new-requires : tie.Need-new-requires Inv-loop μ-loop
+new-requires c κs = search needs
+
 loop-holds : tie.Need-loop-holds Inv-loop μ-loop
 loop-holds c = search needs
 
@@ -61,6 +64,7 @@ play-spec =
     (tie.spec
     Inv-loop
     μ-loop
+    new-requires
     loop-holds
     line-end-requires
     sub-carry-out
