@@ -10,7 +10,7 @@ ghost use Rattle.calls.specs.Refusals.{numberOf};
 ghost use Rattle.calls.specs.Results as results;
 ghost use Rattle.calls.specs.Promises as promises;
 
-mod checks;
+pub mod checks;
 
 // The drive record: the capacity C and the position p. Its type owns the limits and the calls.
 #[repr(C)]

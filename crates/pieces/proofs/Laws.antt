@@ -10,7 +10,8 @@ use lib.ListN.{getD, length}
 use Rattle.pieces.specs.Board.{good, Good, weight, number}
 use Rattle.pieces.specs.Placing.{Placeable, placed}
 use Rattle.pieces.specs.Tidying.{Removable, removed}
-use Rattle.pieces.proofs.Blocks.{total}
+use Rattle.pieces.proofs.Blocks.{total, pieces-runs}
+use Rattle.pieces.proofs.Replace.{Agree, runs-local}
 use Rattle.pieces.proofs.Literal.{good-intro, good-elim}
 use Rattle.pieces.proofs.Opened.{idle-good}
 use Rattle.pieces.proofs.Weight as weights
@@ -21,6 +22,13 @@ use Rattle.pieces.proofs.Sums as sums
 -- a stream of weight w on a good board has as many pieces as w has ones
 pub pieces-ones : (C : ℕ) (B : List ℕ) (x : ℕ) → C ≤ 4095 → good C B ≡ true → number C B x ≡ ones (weight C B x)
 pieces-ones C B x few sound = weights.good-number C B (good-elim C B sound) x ∙ ap ones (sym (weights.weight-total C B x (omega arith)))
+
+-- whether a board is good hangs on its leaves alone, and not on the entries beyond them
+pub good-same : (C : ℕ) (B B′ : List ℕ) → ((i : ℕ) → i < C → getD B i 0 ≡ getD B′ i 0) → good C B ≡ true → good C B′ ≡ true
+good-same C B B′ same sound =
+    let agree : Agree C B B′ 0 12 = λ i c p q. same i c in
+    good-intro C B′ (λ x e.
+    omega (arith, good-elim C B sound x e, pieces-runs C B x e 0 12, pieces-runs C B′ x e 0 12, runs-local C B B′ x e 0 12 agree, runs-local C B B′ x (suc e) 0 12 agree))
 
 -- an idle board is good
 pub opened-good : (C : ℕ) (B : List ℕ) → C ≤ 4095 → ((i : ℕ) → i < C → getD B i 0 ≡ 0) → good C B ≡ true

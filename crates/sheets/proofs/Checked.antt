@@ -1,0 +1,131 @@
+-- What the checks of save and read find, part by part, and what is known once they find nothing. Assumes nothing.
+use mathlib.Core.Path.{_≡_, refl, sym, _∙_}
+use mathlib.Core.Bool.{Bool, true, false, not}
+use mathlib.Core.List.{List, [], _∷_}
+use Prim.Native.Nat.{ℕ, _*_, _≤_, _<_}
+use native.Mathlib.Omega.{arith}
+use lib.Dec.{ltb}
+use lib.ListN.{length}
+use borrow.Author.Tests.{lt-ltb, le-ltb, ltb-false, not-false}
+use Rattle.pieces.specs.Board.{good}
+use Rattle.calls.specs.Refusals.{refuseIf, askedOutput, changeMay, openCheck, changeCheck, goodCheck}
+use Rattle.calls.specs.declared.Drive.{Drive}
+use Rattle.calls.specs.declared.Refusal.{Refusal}
+use Rattle.calls.specs.declared.Refusal.the-variants.{Damaged, Output, Block}
+use Rattle.calls.specs.declared.Check.{Check}
+use Rattle.calls.specs.declared.Check.the-variants.{Clear, Refused}
+use Rattle.calls.proofs.Checking.{first-next}
+use Rattle.sheets.specs.Sheet.{blocks, capacityIn, leavesIn, laid}
+use Rattle.sheets.specs.Results.{saveCheck, andThen, blockCheck, readCheck}
+
+first-clear : (j k : Check) → andThen j k ≡ Clear → j ≡ Clear
+first-clear Clear k e = refl
+first-clear (Refused r) k e = e
+
+then-clear : (j k : Check) → andThen j k ≡ Clear → k ≡ Clear
+then-clear Clear k e = e
+then-clear (Refused r) k e = let z : _≡_ {A = ℕ} 0 1 = cc in absurd (omega arith)
+
+block-clear : (b : Bool) → blockCheck b ≡ Clear → b ≡ false
+unfolding blockCheck
+block-clear true e = let z : _≡_ {A = ℕ} 0 1 = cc in absurd (omega arith)
+block-clear false e = refl
+
+clear-block : blockCheck false ≡ Clear
+unfolding blockCheck
+clear-block = refl
+
+refused-block : blockCheck true ≡ Refused Block
+unfolding blockCheck
+refused-block = refl
+
+-- the test that a board is good, as a check
+module _ (C : ℕ) (B : List ℕ) where
+  pub good-check : good C B ≡ true → goodCheck C B ≡ Clear
+  unfolding goodCheck
+  good-check g = rw g
+
+  pub bad-check : good C B ≡ false → goodCheck C B ≡ Refused Damaged
+  unfolding goodCheck
+  bad-check g = rw g
+
+  pub check-good : goodCheck C B ≡ Clear → good C B ≡ true
+  unfolding goodCheck
+  check-good e = sound (good C B) e
+    where
+      sound : (b : Bool) → refuseIf (not b) Damaged Clear ≡ Clear → b ≡ true
+      sound true e = refl
+      sound false e = let z : _≡_ {A = ℕ} 0 1 = cc in absurd (omega arith)
+
+module _ (d : Drive) (B : List ℕ) (n : ℕ) where
+  save-parts : saveCheck d B n ≡ andThen (changeCheck d B) (refuseIf (ltb n (512 * blocks (d .capacity))) Output Clear)
+  unfolding saveCheck changeCheck
+  save-parts = first-next changeMay (Output ∷ []) (askedOutput d B n (512 * blocks (d .capacity)))
+
+  -- save: what the checks of a change find, and then whether the output is too short
+  module _ (m : ℕ) (r : Check) (needed : m ≡ blocks (d .capacity)) (change : r ≡ changeCheck d B) where
+    pub save-unchanged : (x : Refusal) → r ≡ Refused x → Refused x ≡ saveCheck d B n
+    save-unchanged x e = sym (save-parts ∙ rw (← change, e))
+
+    pub save-output : r ≡ Clear → n < 512 * m → Refused Output ≡ saveCheck d B n
+    save-output e h = sym (save-parts ∙ rw (← change, e, ← needed, lt-ltb n (512 * m) h))
+
+    pub save-passes : r ≡ Clear → 512 * m ≤ n → Clear ≡ saveCheck d B n
+    save-passes e h = sym (save-parts ∙ rw (← change, e, ← needed, le-ltb n (512 * m) h))
+
+  pub clear-change : saveCheck d B n ≡ Clear → changeCheck d B ≡ Clear
+  clear-change e = first-clear (changeCheck d B) (refuseIf (ltb n (512 * blocks (d .capacity))) Output Clear) (sym save-parts ∙ e)
+
+  pub clear-room : saveCheck d B n ≡ Clear → 512 * blocks (d .capacity) ≤ n
+  clear-room e = ltb-false n (512 * blocks (d .capacity)) (no-refusal (ltb n (512 * blocks (d .capacity))) (then-clear (changeCheck d B) (refuseIf (ltb n (512 * blocks (d .capacity))) Output Clear) (sym save-parts ∙ e)))
+    where
+      no-refusal : (b : Bool) → refuseIf b Output Clear ≡ Clear → b ≡ false
+      no-refusal true e = let z : _≡_ {A = ℕ} 0 1 = cc in absurd (omega arith)
+      no-refusal false e = refl
+
+-- a sheet that read accepts
+pub record Readable (s B : List ℕ) : Type 0 where
+  pub long : 512 ≤ length s
+  pub fitting : openCheck (capacityIn s) B ≡ Clear
+  pub keeps : laid (capacityIn s) s ≡ true
+  pub good : goodCheck (capacityIn s) (leavesIn (capacityIn s) s) ≡ Clear
+
+module _ (s B : List ℕ) where
+  pub clear-read : readCheck s B ≡ Clear → Readable s B
+  unfolding readCheck
+  clear-read e =
+      let C = capacityIn s in
+      let fourth = goodCheck C (leavesIn C s) in
+      let third = andThen (blockCheck (not (laid C s))) fourth in
+      let second = andThen (openCheck C B) third in
+      let e₂ = then-clear (blockCheck (ltb (length s) 512)) second e in
+      let e₃ = then-clear (openCheck C B) third e₂ in
+      record {
+        long = ltb-false (length s) 512 (block-clear (ltb (length s) 512) (first-clear (blockCheck (ltb (length s) 512)) second e));
+        fitting = first-clear (openCheck C B) third e₂;
+        keeps = not-false (laid C s) (block-clear (not (laid C s)) (first-clear (blockCheck (not (laid C s))) fourth e₃));
+        good = then-clear (blockCheck (not (laid C s))) fourth e₃;
+      }
+
+  pub read-clear : Readable s B → readCheck s B ≡ Clear
+  unfolding readCheck
+  read-clear r = rw (le-ltb (length s) 512 (r .long), clear-block, r .fitting, r .keeps, clear-block) (r .good)
+
+  -- read, one check after the other
+  pub read-short : length s < 512 → Refused Block ≡ readCheck s B
+  unfolding readCheck
+  read-short h = rw (lt-ltb (length s) 512 h, refused-block)
+
+  module _ (c : ℕ) (r : Check) (long : 512 ≤ length s) (is : c ≡ capacityIn s) (openIs : r ≡ openCheck c B) where
+    pub read-unfit : (x : Refusal) → r ≡ Refused x → Refused x ≡ readCheck s B
+    unfolding readCheck
+    read-unfit x e = rw (le-ltb (length s) 512 long, clear-block, ← is, ← openIs, e)
+
+    module _ (opened : r ≡ Clear) (l : Bool) (layout : l ≡ laid c s) where
+      pub read-broken : l ≡ false → Refused Block ≡ readCheck s B
+      unfolding readCheck
+      read-broken e = rw (le-ltb (length s) 512 long, clear-block, ← is, ← openIs, opened, ← layout, e, refused-block)
+
+      pub read-tested : (g : Check) → l ≡ true → g ≡ goodCheck c (leavesIn c s) → g ≡ readCheck s B
+      unfolding readCheck
+      read-tested g e h = rw (le-ltb (length s) 512 long, clear-block, ← is, ← openIs, opened, ← layout, e, clear-block) h

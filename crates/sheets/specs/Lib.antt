@@ -1,0 +1,4 @@
+pub mod Blocks
+pub mod Sheet
+pub mod Results
+pub mod Promises

@@ -1,0 +1,61 @@
+-- The sheet of a board: document 01, "The sheet". The board is its list of leaves B, of which the first C count. Assumes nothing.
+use mathlib.Core.Path.{_≡_}
+use mathlib.Core.Bool.{Bool, true, _&&_}
+use mathlib.Core.List.{List, [], _∷_}
+use Prim.Native.Nat.{ℕ, _+_, _-_, _*_, _/_, _%_, _≤_, _<_}
+use lib.Dec.{eqb}
+use lib.ListN.{length, getD, take}
+use Rattle.sheets.specs.Blocks.{listed, every, total, bytesOf, numberAt, block, stack, sealed}
+
+-- C/253, rounded up
+unfoldable pub blocks : ℕ → ℕ
+blocks C = (C + 252) / 253
+
+-- leaf i, and 0 after the last
+unfoldable pub leafOf : ℕ → List ℕ → ℕ → ℕ
+leafOf C B i = getD (take C B) i 0
+
+-- block b: its number, C, and the 253 leaves from 253 b on
+unfoldable pub page : ℕ → List ℕ → ℕ → List ℕ
+page C B b = block b C (listed (leafOf C B) (253 * b) 253)
+
+-- the bytes that save writes
+unfoldable pub sheet : ℕ → List ℕ → List ℕ
+sheet C B = bytesOf (stack (page C B) 0 (blocks C))
+
+-- which number of a sheet leaf i is: in block i / 253, after the block number and C
+unfoldable pub place : ℕ → ℕ
+place i = 256 * (i / 253) + (2 + i % 253)
+
+unfoldable pub leafIn : List ℕ → ℕ → ℕ
+leafIn s i = numberAt s (place i)
+
+-- C of block 0, the C leaves, and what stands after the last leaf
+unfoldable pub capacityIn : List ℕ → ℕ
+capacityIn s = numberAt s 1
+
+unfoldable pub leavesIn : ℕ → List ℕ → List ℕ
+leavesIn C s = listed (leafIn s) 0 C
+
+unfoldable pub restIn : ℕ → List ℕ → List ℕ
+restIn C s = listed (leafIn s) C (253 * blocks C - C)
+
+-- block b has its own number
+unfoldable pub numbered : List ℕ → ℕ → ℕ → Bool
+numbered s C b = sealed s b b C
+
+unfoldable pub zeros : List ℕ → Bool
+zeros [] = true
+zeros (n ∷ ns) = eqb n 0 && zeros ns
+
+-- the test of read: the length is that of the blocks needed, no block has a wrong number, C or sum, and the rest is zero
+unfoldable pub laid : ℕ → List ℕ → Bool
+laid C s = eqb (length s) (512 * blocks C) && (every (numbered s C) 0 (blocks C) && zeros (restIn C s))
+
+-- the same in the words of document 01, block by block
+pub record Layout (C : ℕ) (s : List ℕ) : Type 0 where
+  pub long : length s ≡ 512 * blocks C
+  pub number : (b : ℕ) → b < blocks C → numberAt s (256 * b) ≡ b
+  pub capacity : (b : ℕ) → b < blocks C → numberAt s (256 * b + 1) ≡ C
+  pub sum : (b : ℕ) → b < blocks C → total (listed (numberAt s) (256 * b) 256) % 65536 ≡ 0
+  pub rest : (b i : ℕ) → b < blocks C → i < 253 → C ≤ 253 * b + i → numberAt s (256 * b + (2 + i)) ≡ 0

@@ -1,0 +1,130 @@
+// The form of sheet that lists the leaves: what its blocks hold, written, tested and read.
+ghost use mathlib.Core.Path.{_≡_};
+ghost use mathlib.Core.List.{_++_};
+ghost use Prim.Native.Nat.{_+_, _*_, _/_, _≤_, _<_};
+ghost use lib.ListN.{length, drop};
+ghost use lib.Seq.{sets};
+ghost use Rattle.sheets.specs.Blocks.{listed, every, total, bytesOf};
+ghost use Rattle.sheets.specs.Sheet.{blocks, leafOf, page, sheet, leafIn, leavesIn, restIn, numbered, laid};
+use crate::blocks;
+use calls::Drive;
+
+// How many blocks a sheet has.
+pub fn block_count(c: usize) -> usize
+    requires { ⌜ c ≤ 65535 ⌝ }
+    ensures { λ r. ⌜ r ≡ blocks c ⌝ }
+{
+    (c + (Drive::LEAVES_PER_BLOCK - 1)) / Drive::LEAVES_PER_BLOCK
+}
+
+// Leaf i of the board, and 0 after the last.
+fn leaf(board: &[u16], c: usize, i: usize) -> usize
+    requires { ⌜ c ≤ length (now board) ⌝ }
+    ensures { λ r. ⌜ (r ≡ leafOf c (now (board .entry)) i) × (r < 65536) ⌝ }
+{
+    if i < c {
+        return board[i] as usize;
+    }
+    0
+}
+
+// Writes 253 leaves, from leaf first on, to the numbers from a on; their sum.
+fn write_leaves(board: &[u16], c: usize, first: usize, output: &mut [u8], a: usize) -> usize
+    requires { ⌜ (c ≤ length (now board)) × (first ≤ 4095) × (2 * (a + 253) ≤ length (now output)) ⌝ }
+    ensures { λ r. ⌜ (r ≡ total (listed (leafOf c (now (board .entry))) first 253)) × (r ≤ 16580355) × (now (output .exit) ≡ sets (now (output .entry)) (2 * a) (bytesOf (listed (leafOf c (now (board .entry))) first 253))) ⌝ }
+{
+    let mut t: usize = 0;
+    let mut i: usize = 0;
+    while i < Drive::LEAVES_PER_BLOCK {
+        let x = leaf(board, c, first + i);
+        blocks::put_number(output, a + i, x);
+        t += x;
+        i += 1;
+    }
+    t
+}
+
+// Writes block b.
+fn write_block(board: &[u16], c: usize, b: usize, output: &mut [u8])
+    requires { ⌜ (c ≤ length (now board)) × (c ≤ 4095) × (b ≤ 16) × (512 * b + 512 ≤ length (now output)) ⌝ }
+    ensures { λ _. ⌜ now (output .exit) ≡ sets (now (output .entry)) (512 * b) (bytesOf (page c (now (board .entry)) b)) ⌝ }
+{
+    blocks::start_block(output, b, b, c);
+    let t = write_leaves(board, c, Drive::LEAVES_PER_BLOCK * b, output, 256 * b + 2);
+    blocks::close_block(output, b, b + c + t);
+}
+
+// Writes the sheet of a board.
+pub fn write_sheet(board: &[u16], c: usize, output: &mut [u8])
+    requires { ⌜ (c ≤ length (now board)) × (c ≤ 4095) × (512 * blocks c ≤ length (now output)) ⌝ }
+    ensures { λ _. ⌜ now (output .exit) ≡ sheet c (now (board .entry)) ++ drop (512 * blocks c) (now (output .entry)) ⌝ }
+{
+    let n = block_count(c);
+    let mut b: usize = 0;
+    while b < n {
+        write_block(board, c, b, output);
+        b += 1;
+    }
+}
+
+// Whether the first n blocks have their numbers, C and sums.
+fn are_numbered(sheet: &[u8], c: usize, n: usize) -> bool
+    requires { ⌜ 512 * n ≤ length (now sheet) ⌝ }
+    ensures { λ r. ⌜ r ≡ every (numbered (now (sheet .entry)) c) 0 n ⌝ }
+{
+    let mut b: usize = 0;
+    while b < n {
+        if blocks::is_sealed(sheet, b, b, c) {
+            b += 1;
+        } else {
+            return false;
+        }
+    }
+    true
+}
+
+// The sum of what stands after the last leaf: the numbers before the last of n blocks' last.
+fn rest_sum(sheet: &[u8], c: usize, n: usize) -> usize
+    requires { ⌜ (n ≡ blocks c) × (0 < c) × (c ≤ 4095) × (512 * n ≤ length (now sheet)) ⌝ }
+    ensures { λ r. ⌜ r ≡ total (restIn c (now (sheet .entry))) ⌝ }
+{
+    let rest = Drive::LEAVES_PER_BLOCK * n - c;
+    blocks::sum(sheet, 256 * n - 1 - rest, rest)
+}
+
+// Whether the bytes keep the layout of a sheet.
+pub fn is_laid(sheet: &[u8], c: usize) -> bool
+    requires { ⌜ (0 < c) × (c ≤ 4095) ⌝ }
+    ensures { λ r. ⌜ r ≡ laid c (now (sheet .entry)) ⌝ }
+{
+    let n = block_count(c);
+    if sheet.len() != 512 * n {
+        return false;
+    }
+    if are_numbered(sheet, c, n) {
+        rest_sum(sheet, c, n) == 0
+    } else {
+        false
+    }
+}
+
+// Leaf i of a sheet.
+fn leaf_in(sheet: &[u8], i: usize) -> u16
+    requires { ⌜ 512 * (i / 253) + 512 ≤ length (now sheet) ⌝ }
+    ensures { λ r. ⌜ r ≡ leafIn (now (sheet .entry)) i ⌝ }
+{
+    let b = i / Drive::LEAVES_PER_BLOCK;
+    blocks::number_at(sheet, 256 * b + (2 + i % Drive::LEAVES_PER_BLOCK)) as u16
+}
+
+// Sets the leaves of a board to those of a sheet.
+pub fn read_leaves(sheet: &[u8], c: usize, board: &mut [u16])
+    requires { ⌜ (c ≤ length (now board)) × (512 * blocks c ≤ length (now sheet)) ⌝ }
+    ensures { λ _. ⌜ now (board .exit) ≡ leavesIn c (now (sheet .entry)) ++ drop c (now (board .entry)) ⌝ }
+{
+    let mut i: usize = 0;
+    while i < c {
+        board[i] = leaf_in(sheet, i);
+        i += 1;
+    }
+}
