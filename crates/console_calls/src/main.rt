@@ -1,0 +1,5 @@
+// Every command, and every refusal that the console can give; rounds of 4,095.
+fn main() {
+    let mut board = [0; 4095];
+    desk::serve(&mut board);
+}

@@ -1,0 +1,101 @@
+-- `desk::hear_block` meets its contract. The loop keeps the lengths of what is lent; what is left of the block falls. Assumes nothing.
+use mathlib.Core.Path.{_≡_}
+use Prim.Native.Nat.{_-_, _≤_}
+use native.Mathlib.Omega.{arith}
+use lib.ListN.{length, length-take, length-drop}
+use borrow.Author.Needs.{needs}
+use Rattle.desk.proofs.hear_block.Statement.{statement}
+use Rattle.desk.proofs.hear_block.Tie as tie
+
+abbrev Inv-loop : tie.InvT-loop
+Inv-loop input board₀ out₀ s₀ at₀ board out s at = (at ≤ length input) × (length board ≡ length board₀) × (length out ≡ length out₀)
+
+abbrev μ-loop : tie.MeasureT-loop
+μ-loop input board₀ out₀ s₀ at₀ board out s at = length input - at
+
+loop-holds : tie.Need-loop-holds Inv-loop μ-loop
+loop-holds c = search needs
+
+sub-feed : tie.Need-sub-feed Inv-loop μ-loop
+sub-feed c = omega arith
+
+part-feed-start : tie.Need-part-feed-start Inv-loop μ-loop
+part-feed-start c = omega arith
+
+part-feed-end : tie.Need-part-feed-end Inv-loop μ-loop
+part-feed-end c = omega arith
+
+feed-requires : tie.Need-feed-requires Inv-loop μ-loop
+feed-requires c κs = tt
+
+slice-reshare-prefix-write-all : tie.Need-slice-reshare-prefix-write-all Inv-loop μ-loop
+slice-reshare-prefix-write-all c = c .before .before .before .before .before .feed .ensures .counts .0
+
+slice-aggregate-write-all : tie.Need-slice-aggregate-write-all Inv-loop μ-loop
+slice-aggregate-write-all c = c .before .before .before .before .before .before .feed .ensures .counts .1
+
+write-all-requires : tie.Need-write-all-requires Inv-loop μ-loop
+write-all-requires c κs = tt
+
+same-length : tie.Need-same-length Inv-loop μ-loop
+same-length c = omega (arith, c .before .before .before .before .before .before .before .before .feed .kept .1 .1 .0, c .before .before .before .before .before .before .before .before .feed .kept .1 .1 .1 .0)
+
+same-length-2 : tie.Need-same-length-2 Inv-loop μ-loop
+same-length-2 c = omega (arith, c .before .before .before .before .before .before .before .before .feed .kept .1 .1 .0, c .before .before .before .before .before .before .before .before .feed .kept .1 .1 .1 .0)
+
+returns : tie.Need-returns Inv-loop μ-loop
+returns c = tt
+
+same-length-3 : tie.Need-same-length-3 Inv-loop μ-loop
+same-length-3 c = omega (arith, c .before .before .before .before .before .before .before .before .before .feed .kept .1 .1 .0, c .before .before .before .before .before .before .before .before .before .feed .kept .1 .1 .1 .0)
+
+same-length-4 : tie.Need-same-length-4 Inv-loop μ-loop
+same-length-4 c = omega (arith, c .before .before .before .before .before .before .before .before .before .feed .kept .1 .1 .0, c .before .before .before .before .before .before .before .before .before .feed .kept .1 .1 .1 .0)
+
+returns-2 : tie.Need-returns-2 Inv-loop μ-loop
+returns-2 c = tt
+
+add-at : tie.Need-add-at Inv-loop μ-loop
+add-at c = omega (arith, simp (length-take, length-drop) at (c .before .before .before .before .before .before .before .before .before .feed .ensures .used))
+
+loop-less : tie.Need-loop-less Inv-loop μ-loop
+loop-less c = omega (arith, simp (length-take, length-drop) at (c .before .before .before .before .before .before .before .before .before .feed .ensures .used))
+
+loop-again : tie.Need-loop-again Inv-loop μ-loop
+loop-again c = omega (arith, simp (length-take, length-drop) at (c .before .before .before .before .before .before .before .before .before .feed .ensures .used), c .before .before .before .before .before .before .before .before .before .feed .kept .1 .1 .0, c .before .before .before .before .before .before .before .before .before .feed .kept .1 .1 .1 .0)
+
+same-length-5 : tie.Need-same-length-5 Inv-loop μ-loop
+same-length-5 c = omega arith
+
+same-length-6 : tie.Need-same-length-6 Inv-loop μ-loop
+same-length-6 c = omega arith
+
+returns-3 : tie.Need-returns-3 Inv-loop μ-loop
+returns-3 c = tt
+
+pub hear-block-spec : {M : Type 1} → statement M
+hear-block-spec =
+    tie.close
+    (tie.spec
+    Inv-loop
+    μ-loop
+    loop-holds
+    sub-feed
+    part-feed-start
+    part-feed-end
+    feed-requires
+    slice-reshare-prefix-write-all
+    slice-aggregate-write-all
+    write-all-requires
+    same-length
+    same-length-2
+    returns
+    same-length-3
+    same-length-4
+    returns-2
+    add-at
+    loop-less
+    loop-again
+    same-length-5
+    same-length-6
+    returns-3)

@@ -1,0 +1,76 @@
+-- `desk::talk` meets its contract. The loop keeps the lengths of what is lent; the turns left fall. Assumes nothing.
+use mathlib.Core.Path.{_≡_}
+use native.Mathlib.Omega.{arith}
+use lib.ListN.{length}
+use borrow.Author.Needs.{needs}
+use Rattle.desk.proofs.talk.Statement.{statement}
+use Rattle.desk.proofs.talk.Tie as tie
+
+abbrev Inv-loop : tie.InvT-loop
+Inv-loop input₀ board₀ out₀ session₀ turns₀ input board out session turns = (length input ≡ length input₀) × (length board ≡ length board₀) × (length out ≡ length out₀)
+
+abbrev μ-loop : tie.MeasureT-loop
+μ-loop input₀ board₀ out₀ session₀ turns₀ input board out session turns = turns
+
+new-requires : tie.Need-new-requires Inv-loop μ-loop
+new-requires c κs = tt
+
+loop-holds : tie.Need-loop-holds Inv-loop μ-loop
+loop-holds c = search needs
+
+take-turn-requires : tie.Need-take-turn-requires Inv-loop μ-loop
+take-turn-requires c κs = tt
+
+same-length : tie.Need-same-length Inv-loop μ-loop
+same-length c = omega (arith, c .before .before .before .before .before .before .before .before .before .take-turn .kept .1 .0, c .before .before .before .before .before .before .before .before .before .take-turn .kept .1 .1 .0, c .before .before .before .before .before .before .before .before .before .take-turn .kept .1 .1 .1 .0)
+
+same-length-2 : tie.Need-same-length-2 Inv-loop μ-loop
+same-length-2 c = omega (arith, c .before .before .before .before .before .before .before .before .before .take-turn .kept .1 .0, c .before .before .before .before .before .before .before .before .before .take-turn .kept .1 .1 .0, c .before .before .before .before .before .before .before .before .before .take-turn .kept .1 .1 .1 .0)
+
+same-length-3 : tie.Need-same-length-3 Inv-loop μ-loop
+same-length-3 c = omega (arith, c .before .before .before .before .before .before .before .before .before .take-turn .kept .1 .0, c .before .before .before .before .before .before .before .before .before .take-turn .kept .1 .1 .0, c .before .before .before .before .before .before .before .before .before .take-turn .kept .1 .1 .1 .0)
+
+returns : tie.Need-returns Inv-loop μ-loop
+returns c = tt
+
+sub-turns : tie.Need-sub-turns Inv-loop μ-loop
+sub-turns c = omega arith
+
+loop-less : tie.Need-loop-less Inv-loop μ-loop
+loop-less c = omega arith
+
+loop-again : tie.Need-loop-again Inv-loop μ-loop
+loop-again c = omega (arith, c .before .before .before .before .before .before .before .before .before .take-turn .kept .1 .0, c .before .before .before .before .before .before .before .before .before .take-turn .kept .1 .1 .0, c .before .before .before .before .before .before .before .before .before .take-turn .kept .1 .1 .1 .0)
+
+same-length-4 : tie.Need-same-length-4 Inv-loop μ-loop
+same-length-4 c = omega arith
+
+same-length-5 : tie.Need-same-length-5 Inv-loop μ-loop
+same-length-5 c = omega arith
+
+same-length-6 : tie.Need-same-length-6 Inv-loop μ-loop
+same-length-6 c = omega arith
+
+returns-2 : tie.Need-returns-2 Inv-loop μ-loop
+returns-2 c = tt
+
+pub talk-spec : {M : Type 1} → statement M
+talk-spec =
+    tie.close
+    (tie.spec
+    Inv-loop
+    μ-loop
+    new-requires
+    loop-holds
+    take-turn-requires
+    same-length
+    same-length-2
+    same-length-3
+    returns
+    sub-turns
+    loop-less
+    loop-again
+    same-length-4
+    same-length-5
+    same-length-6
+    returns-2)

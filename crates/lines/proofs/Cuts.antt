@@ -1,0 +1,74 @@
+-- Searching and cutting: where the first of a byte stands, the words of a line by its first space, equal words. Assumes nothing.
+use mathlib.Core.Path.{_≡_, refl, ap}
+use mathlib.Core.Bool.{Bool, true, false}
+use mathlib.Core.List.{List, [], _∷_}
+use Prim.Native.Nat.{ℕ, suc, _≤_, _<_}
+use native.Mathlib.Omega.{arith}
+use lib.Dec.{eqb}
+use lib.ListN.{length, getD, take, drop, drop-of-length-le}
+use lib.Seq.{drop-cons}
+use borrow.Author.Tests.{eq-eqb, ne-eqb}
+use Rattle.lines.specs.Grammar.{placeOf, words, same}
+
+-- case analysis on a test, with its equation
+pub by-bool {ℓ} : {P : Type ℓ} (b : Bool) → (b ≡ true → P) → (b ≡ false → P) → P
+by-bool true t f = t refl
+by-bool false t f = f refl
+
+pub place-here : (b : ℕ) (s : List ℕ) (i : ℕ) → i < length s → getD s i 0 ≡ b → placeOf b (drop i s) ≡ 0
+unfolding placeOf
+place-here b s i h e = rw (drop-cons s i 0 h, eq-eqb (getD s i 0) b e) refl
+
+pub place-past : (b : ℕ) (s : List ℕ) (i : ℕ) → i < length s → (getD s i 0 ≡ b → ⊥)
+    → placeOf b (drop i s) ≡ suc (placeOf b (drop (suc i) s))
+unfolding placeOf
+place-past b s i h e = rw (drop-cons s i 0 h, ne-eqb (getD s i 0) b e) refl
+
+pub place-end : (b : ℕ) (s : List ℕ) (i : ℕ) → length s ≤ i → placeOf b (drop i s) ≡ 0
+unfolding placeOf
+place-end b s i h = rw (drop-of-length-le s h) refl
+
+pub place-le : (b : ℕ) (s : List ℕ) → placeOf b s ≤ length s
+unfolding placeOf
+place-le b [] = omega arith
+place-le b (a ∷ s) = let r = place-le b s in by-bool (eqb a b) (λ t. rw t (omega arith)) (λ f. rw f (omega arith))
+
+-- a line with no space is one word
+pub words-one : (s : List ℕ) → length s ≤ placeOf 32 s → words s ≡ s ∷ []
+unfolding placeOf words
+words-one [] h = refl
+words-one (b ∷ s) h =
+    by-bool (eqb b 32)
+    (λ t. absurd (let z = rw t at h in omega arith))
+    (λ f. let z = rw f at h in rw (f, words-one s (omega arith)) refl)
+
+-- a line with a space is the word before the first one, and the words after it
+pub words-more : (s : List ℕ) → placeOf 32 s < length s → words s ≡ take (placeOf 32 s) s ∷ words (drop (suc (placeOf 32 s)) s)
+unfolding placeOf words
+words-more [] h = absurd (omega arith)
+words-more (b ∷ s) h =
+    by-bool (eqb b 32)
+    (λ t. rw t refl)
+    (λ f. let z = rw f at h in rw (f, words-more s (omega arith)) refl)
+
+pub same-short : (s t : List ℕ) → (length s ≡ length t → ⊥) → same s t ≡ false
+unfolding same
+same-short [] [] h = absurd (h refl)
+same-short [] (b ∷ t) h = refl
+same-short (a ∷ s) [] h = refl
+same-short (a ∷ s) (b ∷ t) h =
+    by-bool (eqb a b) (λ e. rw e (same-short s t (λ (l : length s ≡ length t). h (ap suc l)))) (λ f. rw f refl)
+
+pub same-next : (s t : List ℕ) (i : ℕ) → i < length s → i < length t → getD s i 0 ≡ getD t i 0
+    → same (drop i s) (drop i t) ≡ same (drop (suc i) s) (drop (suc i) t)
+unfolding same
+same-next s t i h k e = rw (drop-cons s i 0 h, drop-cons t i 0 k, eq-eqb (getD s i 0) (getD t i 0) e) refl
+
+pub same-differ : (s t : List ℕ) (i : ℕ) → i < length s → i < length t → (getD s i 0 ≡ getD t i 0 → ⊥)
+    → same (drop i s) (drop i t) ≡ false
+unfolding same
+same-differ s t i h k e = rw (drop-cons s i 0 h, drop-cons t i 0 k, ne-eqb (getD s i 0) (getD t i 0) e) refl
+
+pub same-end : (s t : List ℕ) (i : ℕ) → length s ≤ i → length t ≤ i → same (drop i s) (drop i t) ≡ true
+unfolding same
+same-end s t i h k = rw (drop-of-length-le s h, drop-of-length-le t k) refl

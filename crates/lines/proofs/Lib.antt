@@ -1,0 +1,14 @@
+pub mod Cuts
+pub mod Spelling
+pub mod Commands
+pub mod Lengths
+pub mod Decimals
+pub mod Telling
+pub mod Names
+pub mod Keeping
+pub mod Talks
+pub mod Whole
+pub mod Parts
+pub mod Unique
+pub mod Examples
+pub mod Laws

@@ -1,0 +1,86 @@
+-- The names of a round: what the lent room for them holds once a round is done. Assumes nothing.
+use mathlib.Core.Path.{_≡_, refl, sym, ap, _∙_}
+use mathlib.Core.Bool.{Bool, true, false, _||_}
+use mathlib.Core.List.{List, _++_}
+use Prim.Native.Nat.{ℕ, _≤_, _<_}
+use native.Mathlib.Omega.{arith}
+use lib.Dec.{eqb, ltb}
+use lib.ListN.{length, take, drop, length-append, length-drop, length-replicate}
+use lib.Seq.{take-at}
+use borrow.Author.Tests.{ltb-false}
+use Rattle.calls.specs.declared.Drive.{Drive}
+use Rattle.calls.specs.declared.Check.{Check}
+use Rattle.calls.specs.declared.Check.the-variants.{Clear, Refused}
+use Rattle.calls.specs.declared.Refusal.{Refusal}
+use Rattle.calls.specs.declared.Refusal.the-variants.{Capacity, Short, Position, Midround, Damaged, Name, Weight, Taken, Absent, Room, Output, Block}
+use Rattle.calls.specs.declared.Rounded.{Rounded}
+use Rattle.calls.specs.declared.Rounding.the-variants as rounding
+use Rattle.calls.specs.Refusals.{numberOf, refuseIf, firstOf, applies, roundCheck}
+use Rattle.calls.specs.Results.{roundNames, roundingBy, rounded, roundedOutput}
+use Rattle.lines.specs.Printing.{blank}
+
+-- a refusal's number has at most two digits
+pub number-short : (r : Refusal) → numberOf r < 100
+number-short Capacity = omega arith
+number-short Short = omega arith
+number-short Position = omega arith
+number-short Midround = omega arith
+number-short Damaged = omega arith
+number-short Name = omega arith
+number-short Weight = omega arith
+number-short Taken = omega arith
+number-short Absent = omega arith
+number-short Room = omega arith
+number-short Output = omega arith
+number-short Block = omega arith
+
+blank-length : (n : ℕ) → length (blank n) ≡ n
+unfolding blank
+blank-length n = length-replicate n 0
+
+done-clear : (k : Check) → roundingBy k ≡ rounding.Done → k ≡ Clear
+done-clear Clear e = refl
+done-clear (Refused r) e = let z : _≡_ {A = ℕ} 0 1 = cc in absurd (omega arith)
+
+within : (a b : Bool) (others : Check) → refuseIf (a || b) Capacity others ≡ Clear → b ≡ false
+within true b others e = let z : _≡_ {A = ℕ} 0 1 = cc in absurd (omega arith)
+within false true others e = let z : _≡_ {A = ℕ} 0 1 = cc in absurd (omega arith)
+within false false others e = refl
+
+-- no round is done of more than 4,095 slots
+clear-fits : (d : Drive) (B : List ℕ) (n : ℕ) → roundCheck d B n ≡ Clear → d .capacity ≤ 4095
+unfolding roundCheck firstOf applies
+clear-fits d B n e = ltb-false 4095 (d .capacity) (within (eqb (d .capacity) 0) (ltb 4095 (d .capacity)) _ e)
+
+-- what is known after a round into blank room for 4,095 names, and more where it is done
+pub record Named (d : Drive) (B O′ : List ℕ) : Type 0 where
+  pub done : roundingBy (roundCheck d B 4095) ≡ rounding.Done
+  pub fit : d .capacity ≤ 4095
+  pub within : d .capacity ≤ length O′
+  pub names : take (d .capacity) O′ ≡ roundNames (d .capacity) B
+
+module _ (d : Drive) (B O O′ : List ℕ) (R : Rounded) (o : O ≡ blank 4095) (r : R ≡ rounded d B O) where
+  room-length : length O ≡ 4095
+  room-length = rw o (blank-length 4095)
+
+  pub answer-is : R .answer ≡ roundingBy (roundCheck d B 4095)
+  answer-is = rw (r, room-length) refl
+
+  module _ (w : O′ ≡ roundedOutput d B O) (kept : length O′ ≡ length O) (done : R .answer ≡ rounding.Done) where
+    clear : roundCheck d B 4095 ≡ Clear
+    clear = done-clear (roundCheck d B 4095) (sym answer-is ∙ done)
+
+    written : O′ ≡ roundNames (d .capacity) B ++ drop (d .capacity) O
+    written = w ∙ rw (room-length, clear) refl
+
+    pub named : Named d B O′
+    named =
+        let fit = clear-fits d B 4095 clear in
+        let long : length (roundNames (d .capacity) B) ≡ d .capacity =
+        omega (arith, room-length, simp (length-append, length-drop) at (ap length written)) in
+        record {
+          done = sym answer-is ∙ done;
+          fit = fit;
+          within = omega (arith, room-length);
+          names = rw written (take-at (roundNames (d .capacity) B) (drop (d .capacity) O) (d .capacity) long);
+        }

@@ -1,0 +1,64 @@
+-- An input heard in parts: a feed hears a first part of what it is given, and what is said of parts, one after the other, is what is said of the whole.
+-- Assumes nothing.
+use mathlib.Core.Path.{_≡_, refl, ap, _∙_}
+use mathlib.Core.List.{List, [], _∷_, _++_, append-nil, append-assoc}
+use Prim.Native.Nat.{ℕ, suc, _+_, _-_, _≤_, _<_}
+use native.Mathlib.Omega.{arith}
+use lib.Dec.{leb}
+use lib.ListN.{length, take}
+use lib.Seq.{take-nil}
+use borrow.Author.Tests.{le-leb}
+use Rattle.lines.specs.declared.hearing.Session.{Session}
+use Rattle.lines.specs.Replies.{room}
+use Rattle.lines.specs.Sessions.{Talk, heard, talked, begun, saidOf}
+use Rattle.lines.specs.Console.{heardAll}
+use Rattle.lines.proofs.Cuts.{by-bool}
+
+used-grows : (n : ℕ) (s : List ℕ) (t : Talk) → t .used ≤ talked n t s .used
+unfolding talked
+used-grows n [] t = omega arith
+used-grows n (b ∷ s) t =
+    by-bool (leb (length (t .said) + room) n) (λ e. rw e (omega (arith, used-grows n s (heard t b)))) (λ e. rw e (omega arith))
+
+talk-part : (n : ℕ) (s : List ℕ) (t : Talk) → talked n t s ≡ heardAll t (take (talked n t s .used - t .used) s)
+unfolding talked heardAll
+talk-part n [] t = rw (take-nil {A = ℕ} (t .used - t .used)) refl
+talk-part n (b ∷ s) t =
+    by-bool (leb (length (t .said) + room) n)
+    (λ e.
+    let more = talked n (heard t b) s .used in
+    let z : more - t .used ≡ suc (more - (t .used + 1)) = omega (arith, used-grows n s (heard t b)) in
+    rw (e, z) (talk-part n s (heard t b)))
+    (λ e. let z : t .used - t .used ≡ 0 = omega arith in rw (e, z) refl)
+
+-- a feed hears as much of its input as it says
+pub fed-part : (n : ℕ) (s : Session) (B I : List ℕ) → talked n (begun s B) I ≡ heardAll (begun s B) (take (talked n (begun s B) I .used) I)
+fed-part n s B I = let z : talked n (begun s B) I .used - 0 ≡ talked n (begun s B) I .used = omega arith in rw z at (talk-part n I (begun s B))
+
+-- with room for a reply it hears at least one byte
+pub fed-some : (n : ℕ) (s : Session) (B : List ℕ) (b : ℕ) (I : List ℕ) → room ≤ n → 0 < talked n (begun s B) (b ∷ I) .used
+unfolding talked
+fed-some n s B b I h = rw (le-leb (0 + room) n h) (omega (arith, used-grows n I (heard (begun s B) b)))
+
+-- a talk goes on as a new one would, after what was said before
+onto : Talk → Talk → Talk
+onto t u = record { session = u .session; board = u .board; said = t .said ++ u .said; used = t .used + u .used }
+
+go-on : (s : List ℕ) (t : Talk) → heardAll t s ≡ onto t (heardAll (begun (t .session) (t .board)) s)
+unfolding onto heardAll
+go-on [] t = let z : t .used + 0 ≡ t .used = omega arith in rw (append-nil (t .said), z) refl
+go-on (b ∷ s) t =
+    let u = heardAll (begun (heard t b .session) (heard t b .board)) s in
+    let z : t .used + 1 + u .used ≡ t .used + (0 + 1 + u .used) = omega arith in
+    rw (go-on s (heard t b), go-on s (heard (begun (t .session) (t .board)) b), z, append-assoc (t .said) (saidOf (t .session) (t .board) b) (u .said)) refl
+
+pub heard-append : (s r : List ℕ) (t : Talk) → heardAll t (s ++ r) ≡ heardAll (heardAll t s) r
+unfolding heardAll
+heard-append [] r t = refl
+heard-append (b ∷ s) r t = heard-append s r (heard t b)
+
+-- what is said of two parts is what is said of the whole
+pub said-parts : (s r : List ℕ) (t : Talk)
+    → heardAll t (s ++ r) .said ≡ heardAll t s .said ++ heardAll (begun (heardAll t s .session) (heardAll t s .board)) r .said
+unfolding onto
+said-parts s r t = ap (λ (u : Talk). u .said) (heard-append s r t ∙ go-on r (heardAll t s))

@@ -1,0 +1,22 @@
+-- No second answer fits the promises of `step`, `feed` and `finish`: the result, the board and the lent bytes are decided. (That of `parse` is one equation.)
+-- Assumes nothing.
+use mathlib.Core.Path.{_≡_, sym, _∙_}
+use mathlib.Core.List.{List}
+use Prim.Native.Nat.{ℕ}
+use Rattle.calls.specs.declared.Drive.{Drive}
+use Rattle.lines.specs.declared.talking.Stepped.{Stepped}
+use Rattle.lines.specs.declared.hearing.Session.{Session}
+use Rattle.lines.specs.declared.hearing.Fed.{Fed}
+use Rattle.lines.specs.Replies.{Steps}
+use Rattle.lines.specs.Sessions.{Answered}
+
+unique : {A : Type 0} {x y z : A} → x ≡ z → y ≡ z → x ≡ y
+unique p q = p ∙ sym q
+
+pub step-unique : (L : List ℕ) (d : Drive) (B O : List ℕ) {r q : Stepped} {B′ O′ B″ O″ : List ℕ}
+    → Steps L d B O r B′ O′ → Steps L d B O q B″ O″ → (r ≡ q) × (B′ ≡ B″) × (O′ ≡ O″)
+step-unique L d B O p q = (unique (p .0) (q .0), unique (p .1) (q .1), unique (p .2) (q .2))
+
+pub answered-unique : {s : Session} {I B O : List ℕ} {r q : Fed} {B′ O′ B″ O″ : List ℕ}
+    → Answered s I B O r B′ O′ → Answered s I B O q B″ O″ → (r ≡ q) × (B′ ≡ B″) × (O′ ≡ O″)
+answered-unique p q = (unique (p .handed) (q .handed), unique (p .board) (q .board), unique (p .bytes) (q .bytes))

@@ -1,0 +1,77 @@
+-- `lines::writing::put_fields` meets its contract. The loop keeps: what is written is the values so far, at most six bytes for each. Assumes nothing.
+use mathlib.Core.List.{_++_}
+use mathlib.Core.Path.{_≡_, refl, _∙_}
+use Prim.Native.Nat.{_+_, _-_, _*_, _≤_}
+use native.Mathlib.Numerals.{add-one}
+use native.Mathlib.Omega.{arith}
+use lib.ListN.{length, take, getD, length-append}
+use lib.Seq.{sets, take-all}
+use borrow.Author.Needs.{needs}
+use Rattle.lines.specs.Printing.{field, fields}
+use Rattle.lines.proofs.Decimals.{field-length, fields-more, sets-append}
+use Rattle.lines.proofs.writing.put_fields.Statement.{statement}
+use Rattle.lines.proofs.writing.put_fields.Tie as tie
+
+abbrev Inv-loop : tie.InvT-loop
+Inv-loop out₀ at values to₀ i₀ out to i = (i ≤ length values) × (length out ≡ length out₀) × (to ≤ at + 6 * i) × (to ≡ at + length (fields (take i values))) × (out ≡ sets out₀ at (fields (take i values)))
+
+abbrev μ-loop : tie.MeasureT-loop
+μ-loop out₀ at values to₀ i₀ out to i = length values - i
+
+loop-holds : tie.Need-loop-holds Inv-loop μ-loop
+unfolding fields
+loop-holds c = (omega arith, refl, omega arith, omega arith, refl)
+
+mul-put-field : tie.Need-mul-put-field Inv-loop μ-loop
+mul-put-field c = search needs
+
+shared-slice-read-put-field : tie.Need-shared-slice-read-put-field Inv-loop μ-loop
+shared-slice-read-put-field c = search needs
+
+put-field-requires : tie.Need-put-field-requires Inv-loop μ-loop
+put-field-requires c κs = omega arith
+
+add-i : tie.Need-add-i Inv-loop μ-loop
+add-i c = search needs
+
+loop-less : tie.Need-loop-less Inv-loop μ-loop
+loop-less c = search needs
+
+loop-again : tie.Need-loop-again Inv-loop μ-loop
+loop-again c = let a = c .before .before .before .before .before .before .before .before .before .args in
+    let l = c .before .before .before .before .before .before .loop in
+    let p = c .before .before .put-field .ensures in
+    let v = getD (a .values .now) (l .i) 0 in
+    let more : fields (take (l .i + 1) (a .values .now)) ≡ fields (take (l .i) (a .values .now)) ++ field v =
+    rw add-one (fields-more (a .values .now) (l .i) (omega arith)) in (
+      omega arith,
+      omega (arith, c .before .before .put-field .kept .0),
+      omega (arith, p .0, field-length v (omega (arith, c .before .before .before .shared-slice-known2 .given (l .i)))),
+      rw (more, length-append) (omega (arith, p .0)),
+      p .1 ∙ rw (l .inv .4, l .inv .3, more) (sets-append (a .out .now) (a .at) (fields (take (l .i) (a .values .now))) (field v)),
+    )
+
+same-length : tie.Need-same-length Inv-loop μ-loop
+same-length c = search needs
+
+returns : tie.Need-returns Inv-loop μ-loop
+returns c = let a = c .before .before .before .before .args in
+    let l = c .before .loop in
+    let all : take (l .i) (a .values .now) ≡ a .values .now = take-all (l .i) (a .values .now) (omega arith) in
+    (rw all at (l .inv .3), rw all at (l .inv .4), omega arith)
+
+pub put-fields-spec : {M : Type 1} → statement M
+put-fields-spec =
+    tie.close
+    (tie.spec
+    Inv-loop
+    μ-loop
+    loop-holds
+    mul-put-field
+    shared-slice-read-put-field
+    put-field-requires
+    add-i
+    loop-less
+    loop-again
+    same-length
+    returns)

@@ -1,0 +1,99 @@
+-- The language of the console's input: document 01, "Console". A line is the list of its bytes, without the line feed.
+-- Assumes nothing.
+use mathlib.Core.Bool.{Bool, true, false, cond, _&&_}
+use mathlib.Core.List.{List, [], _∷_}
+use Prim.Native.Nat.{ℕ, suc, _+_, _-_, _*_}
+use lib.Dec.{leb, eqb}
+use lib.ListN.{length}
+use Rattle.lines.specs.declared.Command.{Command}
+use Rattle.lines.specs.declared.Command.the-variants.{Open, Add, Remove, Slot, Round, Unknown}
+use Rattle.lines.specs.declared.reading.Numeral.{Numeral}
+use Rattle.lines.specs.declared.reading.Numeral.the-variants.{Value, Nothing}
+
+-- the place of the first b, or the length where there is none
+unfoldable pub placeOf : ℕ → List ℕ → ℕ
+placeOf b [] = 0
+placeOf b (a ∷ s) = cond (eqb a b) 0 (suc (placeOf b s))
+
+-- a byte in front of the words of what follows it: a space ends an empty word, any other byte belongs to the word that follows
+abbrev pub parted : Bool → ℕ → List (List ℕ) → List (List ℕ)
+parted true b ws = [] ∷ ws
+parted false b [] = (b ∷ []) ∷ []
+parted false b (w ∷ ws) = (b ∷ w) ∷ ws
+
+-- "One space between words": a line's words are what stands between its spaces. Where two spaces meet, or one stands at an end, that is an empty word.
+unfoldable pub words : List ℕ → List (List ℕ)
+words [] = [] ∷ []
+words (b ∷ s) = parted (eqb b 32) b (words s)
+
+-- two words are the same
+unfoldable pub same : List ℕ → List ℕ → Bool
+same [] [] = true
+same [] (b ∷ t) = false
+same (a ∷ s) [] = false
+same (a ∷ s) (b ∷ t) = eqb a b && same s t
+
+-- the digits `0` to `9`
+unfoldable pub digit : ℕ → Bool
+digit b = leb 48 b && leb b 57
+
+unfoldable pub digits : List ℕ → Bool
+digits [] = true
+digits (b ∷ s) = digit b && digits s
+
+-- the number that digits spell after those that spell v
+unfoldable pub spelled : ℕ → List ℕ → ℕ
+spelled v [] = v
+spelled v (b ∷ s) = spelled (v * 10 + (b - 48)) s
+
+-- a word as a number: it has 1 to most digits and nothing else, and is at most limit
+unfoldable pub numeral : ℕ → ℕ → List ℕ → Numeral
+numeral most limit w =
+    cond (leb 1 (length w) && leb (length w) most && digits w && leb (spelled 0 w) limit) (Value (spelled 0 w)) Nothing
+
+-- "numbers have 1 to 5 digits and are at most 65,535"
+abbrev pub number : List ℕ → Numeral
+number w = numeral 5 65535 w
+
+-- the words `open`, `add`, `remove`, `slot`, `round`
+abbrev pub openWord : List ℕ
+openWord = 111 ∷ 112 ∷ 101 ∷ 110 ∷ []
+
+abbrev pub addWord : List ℕ
+addWord = 97 ∷ 100 ∷ 100 ∷ []
+
+abbrev pub removeWord : List ℕ
+removeWord = 114 ∷ 101 ∷ 109 ∷ 111 ∷ 118 ∷ 101 ∷ []
+
+abbrev pub slotWord : List ℕ
+slotWord = 115 ∷ 108 ∷ 111 ∷ 116 ∷ []
+
+abbrev pub roundWord : List ℕ
+roundWord = 114 ∷ 111 ∷ 117 ∷ 110 ∷ 100 ∷ []
+
+-- `slot`, `round`
+unfoldable pub alone : List ℕ → Command
+alone w = cond (same w slotWord) Slot (cond (same w roundWord) Round Unknown)
+
+-- `open C`, `remove NAME`
+unfoldable pub withOne : List ℕ → Numeral → Command
+withOne w Nothing = Unknown
+withOne w (Value x) = cond (same w openWord) (Open x) (cond (same w removeWord) (Remove x) Unknown)
+
+-- `add NAME WEIGHT`
+unfoldable pub withTwo : List ℕ → Numeral → Numeral → Command
+withTwo w Nothing y = Unknown
+withTwo w (Value x) Nothing = Unknown
+withTwo w (Value x) (Value y) = cond (same w addWord) (Add x y) Unknown
+
+-- the command of a line's words; "anything else, an empty line included", is not understood
+unfoldable pub command : List (List ℕ) → Command
+command [] = Unknown
+command (w ∷ []) = alone w
+command (w ∷ x ∷ []) = withOne w (number x)
+command (w ∷ x ∷ y ∷ []) = withTwo w (number x) (number y)
+command (w ∷ x ∷ y ∷ z ∷ ws) = Unknown
+
+-- the command that a line is
+unfoldable pub parsed : List ℕ → Command
+parsed line = command (words line)

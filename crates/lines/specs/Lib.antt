@@ -1,0 +1,5 @@
+pub mod Grammar
+pub mod Printing
+pub mod Replies
+pub mod Sessions
+pub mod Console
