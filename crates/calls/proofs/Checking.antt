@@ -19,7 +19,7 @@ use Rattle.calls.specs.declared.Refusal.{Refusal}
 use Rattle.calls.specs.declared.Refusal.the-variants.{Position, Midround, Damaged, Name, Weight, Taken, Absent, Room, Output}
 use Rattle.calls.specs.declared.Check.{Check}
 use Rattle.calls.specs.declared.Check.the-variants.{Clear, Refused}
-use Rattle.calls.specs.Refusals.{Asked, applies, refuseIf, firstOf, asked, openCheck, addCheck, removeCheck, slotCheck, changeCheck, roundCheck, reportCheck, positionCheck, goodCheck, heldCheck, newCheck, askedOpen, askedAdd, askedName, askedOutput, openMay, addMay, removeMay, slotMay, changeMay, roundMay, reportMay}
+use Rattle.calls.specs.Refusals.{Asked, applies, refuseIf, firstOf, asked, openCheck, addCheck, removeCheck, slotCheck, changeCheck, roundCheck, reportCheck, positionCheck, goodCheck, heldCheck, newCheck, askedOpen, askedAdd, askedName, askedOutput, openMay, addMay, removeMay, slotMay, changeMay, roundMay, reportMay, andThen}
 
 -- 1 shifted by the digits of a capacity
 pub record Order (C : ℕ) : Type 0 where
@@ -45,43 +45,38 @@ weight-le (suc n) B x = omega (arith, weight-le n B x, bit-le (eqb (getD B n 0) 
 pub count-small : (C : ℕ) (B : List ℕ) (x n : ℕ) → n ≡ weight C B x → n ≤ C
 count-small C B x n e = rw e (weight-le C B x)
 
--- what one part of the checks finds, and where that is nothing the next
-abbrev pub next : Check → Check → Check
-next Clear k = k
-next (Refused r) k = Refused r
-
-refuse-next : (b : Bool) (r : Refusal) (j k : Check) → refuseIf b r (next j k) ≡ next (refuseIf b r j) k
+refuse-next : (b : Bool) (r : Refusal) (j k : Check) → refuseIf b r (andThen j k) ≡ andThen (refuseIf b r j) k
 refuse-next true r j k = refl
 refuse-next false r j k = refl
 
 -- a list of refusals is looked through part by part
-pub first-next : (rs ss : List Refusal) (a : Asked) → firstOf (rs ++ ss) a ≡ next (firstOf rs a) (firstOf ss a)
+pub first-next : (rs ss : List Refusal) (a : Asked) → firstOf (rs ++ ss) a ≡ andThen (firstOf rs a) (firstOf ss a)
 unfolding firstOf
 first-next [] ss a = refl
 first-next (r ∷ rs) ss a = rw (first-next rs ss a) (refuse-next (applies r a) r (firstOf rs a) (firstOf ss a))
 
 module _ (d : Drive) (B : List ℕ) where
-  pub slot-parts : slotCheck d B ≡ next (openCheck (d .capacity) B) (positionCheck (d .capacity) (d .position))
+  pub slot-parts : slotCheck d B ≡ andThen (openCheck (d .capacity) B) (positionCheck (d .capacity) (d .position))
   unfolding slotCheck openCheck positionCheck
   slot-parts = first-next openMay (Position ∷ []) (asked d B)
 
-  pub change-parts : changeCheck d B ≡ next (slotCheck d B) (refuseIf (not (eqb (d .position) 1)) Midround (goodCheck (d .capacity) B))
+  pub change-parts : changeCheck d B ≡ andThen (slotCheck d B) (refuseIf (not (eqb (d .position) 1)) Midround (goodCheck (d .capacity) B))
   unfolding changeCheck slotCheck goodCheck
   change-parts = first-next slotMay (Midround ∷ Damaged ∷ []) (asked d B)
 
-  pub add-parts : (x w : ℕ) → addCheck d B x w ≡ next (changeCheck d B) (newCheck (d .capacity) B x w)
+  pub add-parts : (x w : ℕ) → addCheck d B x w ≡ andThen (changeCheck d B) (newCheck (d .capacity) B x w)
   unfolding addCheck changeCheck newCheck
   add-parts x w = first-next changeMay (Name ∷ Weight ∷ Taken ∷ Room ∷ []) (askedAdd d B x w)
 
-  pub remove-parts : (x : ℕ) → removeCheck d B x ≡ next (changeCheck d B) (heldCheck (d .capacity) B x)
+  pub remove-parts : (x : ℕ) → removeCheck d B x ≡ andThen (changeCheck d B) (heldCheck (d .capacity) B x)
   unfolding removeCheck changeCheck heldCheck
   remove-parts x = first-next changeMay (Name ∷ Absent ∷ []) (askedName d B x)
 
-  pub round-parts : (n : ℕ) → roundCheck d B n ≡ next (slotCheck d B) (refuseIf (ltb n (d .capacity)) Output Clear)
+  pub round-parts : (n : ℕ) → roundCheck d B n ≡ andThen (slotCheck d B) (refuseIf (ltb n (d .capacity)) Output Clear)
   unfolding roundCheck slotCheck
   round-parts n = first-next slotMay (Output ∷ []) (askedOutput d B n (d .capacity))
 
-  pub report-parts : (x : ℕ) → reportCheck d B x ≡ next (slotCheck d B) (next (goodCheck (d .capacity) B) (heldCheck (d .capacity) B x))
+  pub report-parts : (x : ℕ) → reportCheck d B x ≡ andThen (slotCheck d B) (andThen (goodCheck (d .capacity) B) (heldCheck (d .capacity) B x))
   unfolding reportCheck slotCheck goodCheck heldCheck
   report-parts x =
       first-next slotMay (Damaged ∷ Name ∷ Absent ∷ []) (askedName d B x)
@@ -91,9 +86,14 @@ pub by-bool {ℓ} : {P : Type ℓ} (b : Bool) → (b ≡ true → P) → (b ≡ 
 by-bool true t f = t refl
 by-bool false t f = f refl
 
-clear-next : (j k : Check) → next j k ≡ Clear → j ≡ Clear
-clear-next Clear k e = refl
-clear-next (Refused r) k e = e
+-- two parts find nothing where each does
+pub first-clear : (j k : Check) → andThen j k ≡ Clear → j ≡ Clear
+first-clear Clear k e = refl
+first-clear (Refused r) k e = e
+
+pub then-clear : (j k : Check) → andThen j k ≡ Clear → k ≡ Clear
+then-clear Clear k e = e
+then-clear (Refused r) k e = let z : _≡_ {A = ℕ} 0 1 = cc in absurd (omega arith)
 
 clear-refuse : (b : Bool) (r : Refusal) (k : Check) → refuseIf b r k ≡ Clear → (b ≡ false) × (k ≡ Clear)
 clear-refuse true r k e = let z : _≡_ {A = ℕ} 0 1 = cc in absurd (omega arith)
@@ -130,7 +130,7 @@ open-clear C B e =
 
 module _ (d : Drive) (B : List ℕ) where
   pub slot-sized : slotCheck d B ≡ Clear → Sized (d .capacity) B
-  slot-sized e = open-clear (d .capacity) B (clear-next _ _ (sym (slot-parts d B) ∙ e))
+  slot-sized e = open-clear (d .capacity) B (first-clear _ _ (sym (slot-parts d B) ∙ e))
 
   pub slot-position : slotCheck d B ≡ Clear → sequences.Position (d .capacity) (d .position)
   unfolding slotCheck Passed
@@ -144,7 +144,7 @@ module _ (d : Drive) (B : List ℕ) where
       record { some = s .some; few = omega arith; first = omega arith; last = omega arith }
 
   pub change-slot : changeCheck d B ≡ Clear → slotCheck d B ≡ Clear
-  change-slot e = clear-next _ _ (sym (change-parts d B) ∙ e)
+  change-slot e = first-clear _ _ (sym (change-parts d B) ∙ e)
 
   pub change-start : changeCheck d B ≡ Clear → d .position ≡ 1
   unfolding changeCheck Passed
@@ -156,7 +156,7 @@ module _ (d : Drive) (B : List ℕ) where
   change-good e = not-false (good (d .capacity) B) (passed changeMay (asked d B) e .1 .1 .1 .1 .0)
 
   pub add-change : (x w : ℕ) → addCheck d B x w ≡ Clear → changeCheck d B ≡ Clear
-  add-change x w e = clear-next _ _ (sym (add-parts d B x w) ∙ e)
+  add-change x w e = first-clear _ _ (sym (add-parts d B x w) ∙ e)
 
   -- what placing asks
   pub add-clear : (x w : ℕ) → addCheck d B x w ≡ Clear → Placeable (d .capacity) B x w
@@ -180,7 +180,7 @@ module _ (d : Drive) (B : List ℕ) where
   add-weight x w e = let n = eqb-false w 0 (passed addMay (askedAdd d B x w) e .1 .1 .1 .1 .1 .1 .0) in omega arith
 
   pub remove-change : (x : ℕ) → removeCheck d B x ≡ Clear → changeCheck d B ≡ Clear
-  remove-change x e = clear-next _ _ (sym (remove-parts d B x) ∙ e)
+  remove-change x e = first-clear _ _ (sym (remove-parts d B x) ∙ e)
 
   -- what removing asks
   pub remove-clear : (x : ℕ) → removeCheck d B x ≡ Clear → Removable (d .capacity) B x
@@ -196,14 +196,14 @@ module _ (d : Drive) (B : List ℕ) where
   remove-held x e = eqb-false (weight (d .capacity) B x) 0 (passed removeMay (askedName d B x) e .1 .1 .1 .1 .1 .1 .0)
 
   pub round-slot : (n : ℕ) → roundCheck d B n ≡ Clear → slotCheck d B ≡ Clear
-  round-slot n e = clear-next _ _ (sym (round-parts d B n) ∙ e)
+  round-slot n e = first-clear _ _ (sym (round-parts d B n) ∙ e)
 
   pub round-room : (n : ℕ) → roundCheck d B n ≡ Clear → d .capacity ≤ n
   unfolding roundCheck Passed
   round-room n e = ltb-false n (d .capacity) (passed roundMay (askedOutput d B n (d .capacity)) e .1 .1 .1 .0)
 
   pub report-slot : (x : ℕ) → reportCheck d B x ≡ Clear → slotCheck d B ≡ Clear
-  report-slot x e = clear-next _ _ (sym (report-parts d B x) ∙ e)
+  report-slot x e = first-clear _ _ (sym (report-parts d B x) ∙ e)
 
   pub report-good : (x : ℕ) → reportCheck d B x ≡ Clear → good (d .capacity) B ≡ true
   unfolding reportCheck Passed

@@ -34,7 +34,7 @@ use Rattle.calls.proofs.Checking.{by-bool, add-clear, add-weight, remov
 use Rattle.calls.specs.Promises.{Opens, Adds, Removes, Serves, Rounds, Reports}
 -- ---- what is known once the checks of a call are clear
 
-pub use Rattle.calls.proofs.Checking.{Sized, open-clear, slot-sized, slot-position, change-slot, change-start, change-good, add-change, add-weight, add-clear, remove-change, remove-held, remove-clear, round-slot, round-room, report-slot, report-good, report-held}
+pub use Rattle.calls.proofs.Checking.{Sized, first-next, first-clear, then-clear, open-clear, slot-sized, slot-parts, change-parts, slot-position, change-slot, change-start, change-good, add-change, add-weight, add-clear, remove-change, remove-held, remove-clear, round-slot, round-room, report-slot, report-good, report-held}
 
 -- ---- what holds of every call
 

@@ -1,4 +1,5 @@
-pub mod Checking
-pub mod Writing
-pub mod Worked
+-- What upper crates cite is Laws. The rest is inner; Worked has the boards worked by hand.
+mod Checking
+mod Writing
+mod Worked
 pub mod Laws

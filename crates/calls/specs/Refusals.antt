@@ -66,6 +66,11 @@ unfolding applies
 firstOf [] a = Clear
 firstOf (r ∷ rs) a = let others = firstOf rs a in refuseIf (applies r a) r others
 
+-- What one part of the checks finds, and where that is nothing what the next part finds.
+abbrev pub andThen : Check → Check → Check
+andThen Clear later = later
+andThen (Refused r) later = Refused r
+
 -- What each call may answer, in its order.
 abbrev pub openMay : List Refusal
 openMay = Capacity ∷ Short ∷ []

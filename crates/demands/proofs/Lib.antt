@@ -1,11 +1,12 @@
-pub mod Windows
-pub mod Streams
-pub mod Checks
-pub mod Answering
-pub mod Valid
-pub mod Reached
-pub mod Rows
-pub mod Standing
-pub mod Promised
+-- The demands stand in Demands. The rest is inner.
+mod Windows
+mod Streams
+mod Checks
+mod Answering
+mod Valid
+mod Reached
+mod Rows
+mod Standing
+mod Promised
 pub mod Demands
-pub mod Examples
+mod Examples

@@ -1,14 +1,15 @@
-pub mod Cuts
-pub mod Spelling
-pub mod Commands
-pub mod Lengths
-pub mod Decimals
-pub mod Telling
-pub mod Names
-pub mod Keeping
-pub mod Talks
-pub mod Whole
-pub mod Parts
-pub mod Unique
-pub mod Examples
+-- What upper crates cite is Laws. The rest is inner.
+mod Cuts
+mod Spelling
+mod Commands
+mod Lengths
+mod Decimals
+mod Telling
+mod Names
+mod Keeping
+mod Talks
+mod Whole
+mod Parts
+mod Unique
+mod Examples
 pub mod Laws

@@ -8,23 +8,15 @@ use lib.Dec.{ltb}
 use lib.ListN.{length}
 use borrow.Author.Tests.{lt-ltb, le-ltb, ltb-false, not-false}
 use Rattle.pieces.specs.Board.{good}
-use Rattle.calls.specs.Refusals.{refuseIf, askedOutput, changeMay, openCheck, changeCheck, goodCheck}
+use Rattle.calls.specs.Refusals.{refuseIf, askedOutput, changeMay, openCheck, changeCheck, goodCheck, andThen}
 use Rattle.calls.specs.declared.Drive.{Drive}
 use Rattle.calls.specs.declared.Refusal.{Refusal}
 use Rattle.calls.specs.declared.Refusal.the-variants.{Damaged, Output, Block}
 use Rattle.calls.specs.declared.Check.{Check}
 use Rattle.calls.specs.declared.Check.the-variants.{Clear, Refused}
-use Rattle.calls.proofs.Checking.{first-next}
+use Rattle.calls.proofs.Laws.{first-next, first-clear, then-clear}
 use Rattle.sheets.specs.Sheet.{blocks, capacityIn, leavesIn, laid}
-use Rattle.sheets.specs.Results.{saveCheck, andThen, blockCheck, readCheck}
-
-first-clear : (j k : Check) → andThen j k ≡ Clear → j ≡ Clear
-first-clear Clear k e = refl
-first-clear (Refused r) k e = e
-
-then-clear : (j k : Check) → andThen j k ≡ Clear → k ≡ Clear
-then-clear Clear k e = e
-then-clear (Refused r) k e = let z : _≡_ {A = ℕ} 0 1 = cc in absurd (omega arith)
+use Rattle.sheets.specs.Results.{saveCheck, blockCheck, readCheck}
 
 block-clear : (b : Bool) → blockCheck b ≡ Clear → b ≡ false
 unfolding blockCheck

@@ -20,8 +20,7 @@ use Rattle.calls.specs.declared.Check.{Check}
 use Rattle.calls.specs.declared.Check.the-variants.{Clear, Refused}
 use Rattle.calls.specs.Answers.{Answer, answered}
 use Rattle.calls.specs.Results.{ifClear}
-use Rattle.calls.proofs.Laws.{Refuses, ascending}
-use Rattle.calls.proofs.Checking.{Sized, open-clear, slot-sized, change-slot, change-good, slot-parts, change-parts}
+use Rattle.calls.proofs.Laws.{Refuses, ascending, Sized, open-clear, slot-sized, change-slot, change-good, slot-parts, change-parts}
 use Rattle.sheets.specs.declared.Saved.{Saved}
 use Rattle.sheets.specs.declared.Saving.the-variants as saving
 use Rattle.sheets.specs.declared.Loaded.{Loaded}

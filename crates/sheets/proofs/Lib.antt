@@ -1,6 +1,7 @@
-pub mod Lists
-pub mod Numbers
+-- What upper crates cite is Laws; Layouts ties the test of a sheet to document 01's own words. The rest is inner.
+mod Lists
+mod Numbers
 pub mod Layouts
-pub mod Stores
-pub mod Checked
+mod Stores
+mod Checked
 pub mod Laws

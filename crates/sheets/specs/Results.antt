@@ -7,7 +7,7 @@ use Prim.Native.Nat.{ℕ, _*_}
 use lib.Dec.{ltb}
 use lib.ListN.{length, drop}
 use Rattle.calls.specs.Records.{driveAt}
-use Rattle.calls.specs.Refusals.{Asked, firstOf, askedOutput, numberOf, openCheck, goodCheck}
+use Rattle.calls.specs.Refusals.{Asked, firstOf, andThen, askedOutput, numberOf, openCheck, goodCheck}
 use Rattle.calls.specs.Answers.{Answer, answered}
 use Rattle.calls.specs.Results.{ifClear}
 use Rattle.calls.specs.declared.Drive.{Drive}
@@ -59,11 +59,6 @@ abbrev pub savedOutput : Drive → List ℕ → List ℕ → List ℕ
 savedOutput d B O =
     let done = sheet (d .capacity) B ++ drop (512 * blocks (d .capacity)) O in
     ifClear (saveCheck d B (length O)) done O
-
--- What one check finds, and where that is nothing the next.
-abbrev pub andThen : Check → Check → Check
-andThen Clear later = later
-andThen (Refused r) later = Refused r
 
 -- What is found of a sheet that breaks its layout or does not.
 abbrev pub askedSheet : Bool → Asked

@@ -5,7 +5,7 @@ use borrow.Author.Needs.{needs}
 use Rattle.sheets.specs.Sheet.{capacityIn}
 use Rattle.sheets.proofs.Layouts.{laid-layout}
 use Rattle.sheets.proofs.Checked.{clear-read}
-use Rattle.calls.proofs.Checking.{open-clear}
+use Rattle.calls.proofs.Laws.{open-clear}
 use Rattle.sheets.proofs.read.Statement.{statement}
 use Rattle.sheets.proofs.read.Tie as tie
 
