@@ -1,0 +1,172 @@
+//! What each call costs, version beside version, on the same boards.
+use crate::clock::{median, now};
+use paper::random::Random;
+use paper::trial::Calls;
+use paper::{hand, letter, Answer};
+use std::hint::black_box;
+
+pub const CALLS: [&str; 7] = ["slot", "add", "remove", "round", "report", "save", "read"];
+
+/// Document 01 by the letter, as a version.
+pub struct Letter;
+
+impl Calls for Letter {
+    fn open(&self, capacity: u16, board: &mut [u16]) -> Answer {
+        letter::open(capacity, board)
+    }
+    fn add(&self, record: (u16, u16), board: &mut [u16], name: u16, weight: u16) -> Answer {
+        letter::add(record, board, name, weight)
+    }
+    fn remove(&self, record: (u16, u16), board: &mut [u16], name: u16) -> Answer {
+        letter::remove(record, board, name)
+    }
+    fn slot(&self, record: (u16, u16), board: &[u16]) -> Answer {
+        letter::slot(record, board)
+    }
+    fn round(&self, record: (u16, u16), board: &[u16], output: &mut [u16]) -> Answer {
+        letter::round(record, board, output)
+    }
+    fn report(&self, record: (u16, u16), board: &[u16], name: u16) -> Answer {
+        letter::report(record, board, name)
+    }
+    fn save(&self, record: (u16, u16), board: &[u16], output: &mut [u8]) -> Answer {
+        letter::save(record, board, output)
+    }
+    fn read(&self, sheet: &[u8], board: &mut [u16]) -> Answer {
+        letter::read(sheet, board)
+    }
+}
+
+/// Weights of n streams that sum to `total`: a few large, many small, each at least 1.
+pub fn weights(n: usize, total: usize, random: &mut Random) -> Vec<u32> {
+    let mut weights = vec![1u32; n];
+    for _ in n..total {
+        let i = random.below(n);
+        weights[random.below(i + 1)] += 1;
+    }
+    weights
+}
+
+/// A board of n streams that hold seven eighths of it, reached by churn: the board, and the names on it.
+fn board(c: usize, n: usize) -> (Vec<u16>, Vec<u16>) {
+    let mut random = Random::new((c * 5000 + n) as u64);
+    let weights = weights(n, (c * 7 / 8).max(n), &mut random);
+    let mut board = vec![0; c];
+    let record = (c as u16, 1);
+    for (i, &w) in weights.iter().enumerate() {
+        assert_eq!(hand::add(record, &mut board, i as u16 + 1, w as u16).number, 0);
+    }
+    for _ in 0..n.min(300) {
+        let i = random.below(n);
+        hand::remove(record, &mut board, i as u16 + 1);
+        assert_eq!(hand::add(record, &mut board, i as u16 + 1, weights[i] as u16).number, 0);
+    }
+    (board, (1..=n as u16).collect())
+}
+
+/// Copies of a board, made before the clock starts, so that each timed call has one of its own.
+const COPIES: usize = 32;
+
+/// Nanoseconds of one call, by one timing of many.
+fn once(calls: &dyn Calls, call: &str, board: &[u16], names: &[u16], few: bool) -> f64 {
+    let c = board.len();
+    let record = (c as u16, 1);
+    let copies = if few { 4 } else { COPIES };
+    let name = |i: usize| names[i * 7919 % names.len()];
+    let mut boards: Vec<Vec<u16>> = (0..copies).map(|_| board.to_vec()).collect();
+    let mut output = vec![0u16; c];
+    let mut bytes = letter::sheet(board);
+    let idle = board.iter().filter(|&&x| x == 0).count();
+    let weight = (idle.max(1) - idle / 3).max(1) as u16;
+    let timed = |many: usize, run: &mut dyn FnMut()| {
+        let start = now();
+        run();
+        (now() - start) / many as f64
+    };
+    match call {
+        "slot" => {
+            let many = if few { c.min(64) } else { (4 * c).max(4000) };
+            let mut at = record;
+            timed(many, &mut || {
+                for _ in 0..many {
+                    at = black_box(calls.slot(at, black_box(board))).record;
+                }
+            })
+        }
+        "add" => timed(copies, &mut || {
+            for b in &mut boards {
+                black_box(calls.add(record, b, 60000, weight));
+            }
+        }),
+        "remove" => timed(copies, &mut || {
+            for (i, b) in boards.iter_mut().enumerate() {
+                black_box(calls.remove(record, b, name(i)));
+            }
+        }),
+        "round" => timed(copies, &mut || {
+            for _ in 0..copies {
+                black_box(calls.round(record, black_box(board), &mut output));
+            }
+        }),
+        "report" => timed(copies, &mut || {
+            for i in 0..copies {
+                black_box(calls.report(record, black_box(board), name(i)));
+            }
+        }),
+        "save" => timed(copies, &mut || {
+            for _ in 0..copies {
+                black_box(calls.save(record, black_box(board), &mut bytes));
+            }
+        }),
+        _ => timed(copies, &mut || {
+            for b in &mut boards {
+                black_box(calls.read(black_box(&bytes), b));
+            }
+        }),
+    }
+}
+
+/// One line of the table: what each version takes, in nanoseconds; the library's is left out where it is not linked.
+pub struct Line {
+    pub capacity: usize,
+    pub streams: usize,
+    pub call: &'static str,
+    pub ours: Option<f64>,
+    pub hand: f64,
+    pub letter: f64,
+}
+
+pub fn table(ours: Option<&dyn Calls>) -> Vec<Line> {
+    let mut lines = Vec::new();
+    for capacity in [15, 255, 4095] {
+        for streams in [1, 10, 200, 4000] {
+            if streams > capacity {
+                continue;
+            }
+            let (board, names) = board(capacity, streams);
+            for call in CALLS {
+                let one = |calls: &dyn Calls, few| once(calls, call, &board, &names, few);
+                let (mut library, mut hand) = (Vec::new(), Vec::new());
+                for repeat in 0..26 {
+                    let a = ours.map(|calls| one(calls, false));
+                    let b = one(&paper::trial::Hand, false);
+                    // The first timing of each only warms.
+                    if repeat > 0 {
+                        library.extend(a);
+                        hand.push(b);
+                    }
+                }
+                let letter = (0..4).map(|_| one(&Letter, true)).skip(1).collect();
+                lines.push(Line {
+                    capacity,
+                    streams,
+                    call,
+                    ours: ours.map(|_| median(library)),
+                    hand: median(hand),
+                    letter: median(letter),
+                });
+            }
+        }
+    }
+    lines
+}

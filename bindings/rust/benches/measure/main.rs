@@ -1,0 +1,221 @@
+//! `cargo bench`: what the calls cost beside two plain-Rust versions, and what a slot costs and how far a stream lags beside other schedulers.
+//! A table on standard output; with the library linked, docs/measured.csv and docs/measured-*.svg (without it, the same below target/measured/).
+//!
+//! Times are processor time of this thread, medians of several timings, the versions by turns in one run; boards, outputs and sheets are made
+//! before the clock starts and are warm, nothing is cleared between calls. Every version is called through a table of functions, none inlined.
+mod calls;
+mod clock;
+mod pictures;
+mod schedulers;
+
+use clock::{median, now};
+use paper::random::Random;
+use paper::trial::Calls;
+use schedulers::{worst_lag, Scheduler};
+use std::fmt::Write as _;
+use std::hint::black_box;
+use std::path::{Path, PathBuf};
+
+#[cfg(linked)]
+#[path = "../../tests/boundary/mod.rs"]
+mod boundary;
+
+/// The library's slot board.
+#[cfg(linked)]
+struct Linked {
+    drive: mandrozsi::Drive,
+    board: Vec<u16>,
+}
+
+#[cfg(linked)]
+impl Scheduler for Linked {
+    fn next(&mut self) -> usize {
+        usize::from(self.drive.slot(&self.board).expect("an opened board").name) - 1
+    }
+}
+
+/// The slot board of the version written for speed.
+struct ByHand {
+    record: (u16, u16),
+    board: Vec<u16>,
+}
+
+impl Scheduler for ByHand {
+    fn next(&mut self) -> usize {
+        let answer = paper::hand::slot(self.record, &self.board);
+        self.record = answer.record;
+        usize::from(answer.values[0]) - 1
+    }
+}
+
+fn full_board(weights: &[u32]) -> Vec<u16> {
+    let c: u32 = weights.iter().sum();
+    let mut board = vec![0; c as usize];
+    for (i, &w) in weights.iter().enumerate() {
+        assert_eq!(paper::hand::add((c as u16, 1), &mut board, i as u16 + 1, w as u16).number, 0);
+    }
+    board
+}
+
+/// The schedulers, each over the same streams.
+fn all(weights: &[u32]) -> Vec<(&'static str, Box<dyn Scheduler>)> {
+    let board = full_board(weights);
+    let capacity = board.len() as u16;
+    vec![
+        #[cfg(linked)]
+        (
+            "slot board",
+            Box::new(Linked {
+                drive: boundary::drive((capacity, 1)),
+                board: board.clone(),
+            }),
+        ),
+        (
+            "slot board by hand",
+            Box::new(ByHand {
+                record: (capacity, 1),
+                board,
+            }),
+        ),
+        ("weighted turn", Box::new(schedulers::Turn::new(weights))),
+        ("deficit", Box::new(schedulers::Deficit::new(weights))),
+        ("smoothed (SRR)", Box::new(schedulers::Smoothed::new(weights))),
+        ("tree walk (RRR)", Box::new(schedulers::Walk::new(weights))),
+        ("smooth (nginx)", Box::new(schedulers::Nginx::new(weights))),
+        ("stride (heap)", Box::new(schedulers::Stride::new(weights))),
+    ]
+}
+
+/// Nanoseconds of one slot, and the worst lag in slots, of a scheduler at a number of streams.
+pub struct Point {
+    pub scheduler: &'static str,
+    pub streams: usize,
+    pub cost: f64,
+    pub lag: f64,
+}
+
+const C: usize = 4095;
+
+fn scheduler_points() -> Vec<Point> {
+    let mut points = Vec::new();
+    for streams in [1, 2, 5, 10, 20, 50, 100, 200, 500, 1000, 2000, 4000] {
+        let weights = calls::weights(streams, C, &mut Random::new(streams as u64));
+        let mut lags: Vec<f64> = all(&weights).iter_mut().map(|(_, s)| worst_lag(s.as_mut(), &weights, C)).collect();
+        let mut list = all(&weights);
+        let mut costs = vec![Vec::new(); list.len()];
+        for repeat in 0..16 {
+            for ((_, scheduler), costs) in list.iter_mut().zip(&mut costs) {
+                let start = now();
+                for _ in 0..C {
+                    black_box(scheduler.next());
+                }
+                if repeat > 0 {
+                    costs.push((now() - start) / C as f64);
+                }
+            }
+        }
+        for ((name, _), costs) in list.into_iter().zip(costs) {
+            points.push(Point {
+                scheduler: name,
+                streams,
+                cost: median(costs),
+                lag: lags.remove(0),
+            });
+        }
+    }
+    points
+}
+
+fn short(ns: f64) -> String {
+    match ns {
+        ns if ns < 1e3 => format!("{ns:.1} ns"),
+        ns if ns < 1e6 => format!("{:.2} us", ns / 1e3),
+        ns => format!("{:.2} ms", ns / 1e6),
+    }
+}
+
+fn print_calls(lines: &[calls::Line], csv: &mut String) {
+    println!(
+        "{:>5} {:>7} {:>7} {:>11} {:>11} {:>8} {:>11}",
+        "C", "streams", "call", "library", "by hand", "ratio", "by letter"
+    );
+    for l in lines {
+        let (ours, ratio) = match l.ours {
+            Some(ns) => (short(ns), format!("{:.2}", ns / l.hand)),
+            None => ("-".into(), "-".into()),
+        };
+        println!(
+            "{:>5} {:>7} {:>7} {:>11} {:>11} {:>8} {:>11}",
+            l.capacity,
+            l.streams,
+            l.call,
+            ours,
+            short(l.hand),
+            ratio,
+            short(l.letter)
+        );
+        for (version, ns) in [("library", l.ours), ("by hand", Some(l.hand)), ("by letter", Some(l.letter))] {
+            if let Some(ns) = ns {
+                writeln!(csv, "call,{},{},{},{version},{ns:.1},ns", l.capacity, l.streams, l.call).unwrap();
+            }
+        }
+    }
+}
+
+fn print_schedulers(points: &[Point], csv: &mut String) {
+    println!("\n{:<20} {:>7} {:>11} {:>11}", "scheduler, C = 4095", "streams", "a slot", "worst lag");
+    for p in points {
+        if [1, 10, 200, 4000].contains(&p.streams) {
+            println!("{:<20} {:>7} {:>11} {:>11.2}", p.scheduler, p.streams, short(p.cost), p.lag);
+        }
+        writeln!(csv, "scheduler,{C},{},cost of a slot,{},{:.1},ns", p.streams, p.scheduler, p.cost).unwrap();
+        writeln!(csv, "scheduler,{C},{},worst lag,{},{:.3},slots", p.streams, p.scheduler, p.lag).unwrap();
+    }
+}
+
+/// The rounds of one small board's streams, scheduler by scheduler.
+fn strips() -> Vec<(&'static str, Vec<usize>)> {
+    let mut rows = Vec::new();
+    for (name, mut scheduler) in all(&[6, 4, 3, 2]) {
+        // By hand or from the library, the slot board is one.
+        let name = name.trim_end_matches(" by hand");
+        if rows.iter().all(|&(other, _)| other != name) {
+            rows.push((name, (0..15).map(|_| scheduler.next()).collect()));
+        }
+    }
+    rows
+}
+
+fn main() {
+    let repository = Path::new(env!("CARGO_MANIFEST_DIR")).join("../..");
+    #[cfg(linked)]
+    let (ours, folder): (Option<&dyn Calls>, PathBuf) = (Some(&boundary::Boundary), repository.join("docs"));
+    #[cfg(not(linked))]
+    let (ours, folder): (Option<&dyn Calls>, PathBuf) = (None, repository.join("target/measured"));
+    if ours.is_none() {
+        println!("The static library is not linked here (see build.rs): its columns and its scheduler are missing.\n");
+    }
+    let mut csv = String::from("table,capacity,streams,what,version,value,unit\n");
+    print_calls(&calls::table(ours), &mut csv);
+    let points = scheduler_points();
+    print_schedulers(&points, &mut csv);
+    std::fs::create_dir_all(&folder).expect("the folder can be made");
+    let write = |name: &str, text: &str| std::fs::write(folder.join(name), text).expect("the folder can be written");
+    write("measured.csv", &csv);
+    write(
+        "measured-cost.svg",
+        &pictures::lines("Cost of a slot, C = 4,095", "nanoseconds", &points, |p| p.cost),
+    );
+    write(
+        "measured-lag.svg",
+        &pictures::lines("Worst lag within a round, C = 4,095 (none is drawn at 0.5)", "slots", &points, |p| p.lag),
+    );
+    write(
+        "measured-round.svg",
+        &pictures::strips("One round of 15 slots: streams of weight 6, 4, 3 and 2", &strips()),
+    );
+    println!(
+        "\nwritten: measured.csv, measured-cost.svg, measured-lag.svg, measured-round.svg in {}",
+        folder.display()
+    );
+}

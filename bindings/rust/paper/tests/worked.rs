@@ -1,0 +1,74 @@
+//! Document 01's boards worked by hand, run on both plain versions, so that what the library is compared with has been looked at first.
+use paper::{hand, letter, Answer};
+
+type Add = fn((u16, u16), &mut [u16], u16, u16) -> Answer;
+type Remove = fn((u16, u16), &mut [u16], u16) -> Answer;
+type Round = fn((u16, u16), &[u16], &mut [u16]) -> Answer;
+
+const BOTH: [(Add, Remove, Round); 2] = [(letter::add, letter::remove, letter::round), (hand::add, hand::remove, hand::round)];
+
+fn order(round: Round, c: u16) -> Vec<u16> {
+    let board: Vec<u16> = (0..c).collect();
+    let mut out = vec![0; c.into()];
+    assert_eq!(round((c, 1), &board, &mut out).number, 0);
+    out
+}
+
+#[test]
+fn leaf_orders() {
+    for (_, _, round) in BOTH {
+        assert_eq!(order(round, 1), [0]);
+        assert_eq!(order(round, 2), [0, 1]);
+        assert_eq!(order(round, 5), [0, 2, 4, 1, 3]);
+        assert_eq!(order(round, 6), [0, 4, 2, 1, 5, 3]);
+        assert_eq!(order(round, 15), [0, 8, 4, 12, 2, 10, 6, 14, 1, 9, 5, 13, 3, 11, 7]);
+    }
+}
+
+#[test]
+fn boards() {
+    for (add, remove, round) in BOTH {
+        let mut sixteen = [0; 16];
+        for (name, weight) in [(1, 1), (2, 2), (3, 4), (4, 4)] {
+            add((16, 1), &mut sixteen, name, weight);
+        }
+        let mut out = [0; 16];
+        round((16, 1), &sixteen, &mut out);
+        assert_eq!(out, [1, 4, 3, 0, 2, 4, 3, 0, 0, 4, 3, 0, 2, 4, 3, 0]);
+
+        let mut eight = [1, 2, 3, 4, 5, 6, 7, 8];
+        remove((8, 1), &mut eight, 1);
+        remove((8, 1), &mut eight, 3);
+        assert_eq!(eight, [4, 2, 0, 0, 5, 6, 7, 8]);
+        assert_eq!(add((8, 1), &mut eight, 9, 2).number, 0);
+        assert_eq!(eight, [4, 2, 9, 9, 5, 6, 7, 8]);
+
+        let mut three = [0; 3];
+        for name in 1..4 {
+            add((3, 1), &mut three, name, 1);
+        }
+        assert_eq!(three, [2, 3, 1]);
+        remove((3, 1), &mut three, 1);
+        remove((3, 1), &mut three, 2);
+        assert_eq!(three, [0, 0, 3]);
+
+        let mut part = [0; 8];
+        assert_eq!(add((8, 1), &mut part, 7, 5).values[0], 3);
+        assert_eq!(part, [7, 7, 7, 7, 7, 0, 0, 0]);
+        assert_eq!(add((8, 1), &mut part, 2, 4).number, 10);
+        assert_eq!(add((8, 1), &mut part, 2, 3).number, 0);
+
+        let mut one = [0];
+        assert_eq!(add((1, 1), &mut one, 5, 1).number, 0);
+        assert_eq!(add((1, 1), &mut one, 6, 1).number, 10);
+        assert_eq!(add((1, 1), &mut one, 0, 0).number, 6);
+        assert_eq!(add((1, 1), &mut one, 5, 9).number, 8);
+        assert_eq!(add((2, 1), &mut [4, 0], 4, 1).number, 8);
+        assert_eq!(add((5, 1), &mut [4, 0, 0, 4, 0], 4, 1).number, 5);
+
+        let mut full = vec![0; 4095];
+        assert_eq!(add((4095, 1), &mut full, 1, 4095), Answer::done((4095, 1), [0; 3]));
+    }
+    assert_eq!(letter::open(4096, &mut vec![0; 4096]).number, 1);
+    assert_eq!(hand::open(4096, &mut vec![0; 4096]).number, 1);
+}

@@ -1,0 +1,211 @@
+//! The slot board of one tape drive: which stream each slot of a round serves.
+//!
+//! The functions stand in a static library whose every promise is proved; this crate gives them Rust's types. A board is a slice of 16-bit
+//! numbers that the caller keeps: a slice is passed as it is, and nothing is copied. Every call accepts every input; a refused one changes
+//! neither the record nor a lent slice.
+//!
+//! ```no_run
+//! use mandrozsi::{Drive, Refusal};
+//!
+//! let mut board = [0u16; 8];
+//! let mut drive = Drive::open(8, &mut board)?;
+//! assert_eq!(drive.add(&mut board, 7, 5)?, 3); // stream 7 has 5 of 8 slots, 3 are idle
+//! assert_eq!(drive.add(&mut board, 2, 4), Err(Refusal::Room));
+//! assert_eq!(drive.slot(&board)?.name, 7); // the record has moved on
+//! assert_eq!(drive.remove(&mut board, 7), Err(Refusal::Midround));
+//! # Ok::<(), Refusal>(())
+//! ```
+use std::fmt;
+
+pub mod raw;
+
+use raw::Reply;
+
+/// The drive record: the capacity C, and the position p of the next slot, 1 to 2^k - 1, where C has k binary digits. A round starts at p = 1.
+#[repr(C)]
+#[derive(Clone, Copy, Debug, Default, PartialEq, Eq, Hash)]
+pub struct Drive {
+    pub capacity: u16,
+    pub position: u16,
+}
+
+/// Why a call is refused, with the number that the C header and the sheets' checkers use.
+#[repr(u16)]
+#[derive(Clone, Copy, Debug, PartialEq, Eq, Hash, PartialOrd, Ord)]
+pub enum Refusal {
+    /// C is 0 or above 4,095.
+    Capacity = 1,
+    /// The board has fewer than C entries.
+    Short = 2,
+    /// p is 0 or above 2^k - 1.
+    Position = 3,
+    /// p is not 1: a board is changed and saved only at the start of a round.
+    Midround = 4,
+    /// The board is not good: two pieces of one name, or two idle ones, have equal size.
+    Damaged = 5,
+    /// The name is 0.
+    Name = 6,
+    /// The weight is 0.
+    Weight = 7,
+    /// A leaf holds the name.
+    Taken = 8,
+    /// No leaf holds the name.
+    Absent = 9,
+    /// The weight exceeds the number of idle leaves.
+    Room = 10,
+    /// The lent output is too short.
+    Output = 11,
+    /// A sheet breaks its layout.
+    Block = 12,
+}
+
+impl Refusal {
+    /// Every refusal, in the order of the numbers.
+    pub const ALL: [Refusal; 12] = [
+        Refusal::Capacity,
+        Refusal::Short,
+        Refusal::Position,
+        Refusal::Midround,
+        Refusal::Damaged,
+        Refusal::Name,
+        Refusal::Weight,
+        Refusal::Taken,
+        Refusal::Absent,
+        Refusal::Room,
+        Refusal::Output,
+        Refusal::Block,
+    ];
+
+    /// The number, 1 to 12.
+    pub const fn number(self) -> u16 {
+        self as u16
+    }
+
+    /// The refusal of a number, if it has one.
+    pub fn from_number(number: u16) -> Option<Refusal> {
+        Refusal::ALL.get(usize::from(number).checked_sub(1)?).copied()
+    }
+}
+
+impl fmt::Display for Refusal {
+    fn fmt(&self, f: &mut fmt::Formatter<'_>) -> fmt::Result {
+        let text = match self {
+            Refusal::Capacity => "the capacity is 0 or above 4,095",
+            Refusal::Short => "the board has fewer entries than the capacity",
+            Refusal::Position => "the position is out of range",
+            Refusal::Midround => "not at the start of a round",
+            Refusal::Damaged => "the board is not good",
+            Refusal::Name => "the name is 0",
+            Refusal::Weight => "the weight is 0",
+            Refusal::Taken => "a leaf holds the name",
+            Refusal::Absent => "no leaf holds the name",
+            Refusal::Room => "the weight exceeds the idle leaves",
+            Refusal::Output => "the output is too short",
+            Refusal::Block => "the sheet breaks its layout",
+        };
+        write!(f, "{text} ({})", self.number())
+    }
+}
+
+impl std::error::Error for Refusal {}
+
+/// One slot: the stream served (0: none), the leaf it was found at, and the terms of the sequence passed over, 0 or 1.
+#[derive(Clone, Copy, Debug, PartialEq, Eq)]
+pub struct Slot {
+    pub name: u16,
+    pub leaf: u16,
+    pub passed: u16,
+}
+
+/// A report: a stream's weight, its number of pieces, and C / weight rounded up.
+#[derive(Clone, Copy, Debug, PartialEq, Eq)]
+pub struct Stream {
+    pub weight: u16,
+    pub pieces: u16,
+    pub spacing: u16,
+}
+
+impl Reply {
+    /// The reply itself where the call was done, or why it was refused.
+    pub fn done(self) -> Result<Reply, Refusal> {
+        match Refusal::from_number(self.number) {
+            None => Ok(self),
+            Some(why) => Err(why),
+        }
+    }
+}
+
+impl Drive {
+    /// The largest capacity.
+    pub const LARGEST: usize = 4095;
+    /// The bytes of a sheet's block.
+    pub const BLOCK_BYTES: usize = 512;
+    /// The leaves of a sheet's block.
+    pub const LEAVES_PER_BLOCK: usize = 253;
+
+    /// Makes the first `capacity` entries of a board idle: a record at the start of a round.
+    pub fn open(capacity: u16, board: &mut [u16]) -> Result<Drive, Refusal> {
+        // SAFETY: pointer and length are of one slice, lent for the call alone. So below.
+        let reply = unsafe { raw::mandrozsi_open(capacity, board.as_mut_ptr(), board.len()) };
+        Ok(reply.done()?.drive)
+    }
+
+    /// Admits a stream: the idle leaves left.
+    pub fn add(self, board: &mut [u16], name: u16, weight: u16) -> Result<u16, Refusal> {
+        let reply = unsafe { raw::mandrozsi_add(self, board.as_mut_ptr(), board.len(), name, weight) };
+        Ok(reply.done()?.first)
+    }
+
+    /// Removes a stream and tidies the board: the idle leaves left.
+    pub fn remove(self, board: &mut [u16], name: u16) -> Result<u16, Refusal> {
+        let reply = unsafe { raw::mandrozsi_remove(self, board.as_mut_ptr(), board.len(), name) };
+        Ok(reply.done()?.first)
+    }
+
+    /// Serves the slot at the position, and moves the record on. Any board will do, good or not.
+    pub fn slot(&mut self, board: &[u16]) -> Result<Slot, Refusal> {
+        let reply = unsafe { raw::mandrozsi_slot(*self, board.as_ptr(), board.len()) };
+        let Reply {
+            drive, first, second, third, ..
+        } = reply.done()?;
+        *self = drive;
+        Ok(Slot {
+            name: first,
+            leaf: second,
+            passed: third,
+        })
+    }
+
+    /// Writes the C names of a full round from p = 1 to the start of the output and nothing beyond them.
+    pub fn round(self, board: &[u16], output: &mut [u16]) -> Result<(), Refusal> {
+        let reply = unsafe { raw::mandrozsi_round(self, board.as_ptr(), board.len(), output.as_mut_ptr(), output.len()) };
+        reply.done().map(|_| ())
+    }
+
+    /// Reports on a stream.
+    pub fn report(self, board: &[u16], name: u16) -> Result<Stream, Refusal> {
+        let reply = unsafe { raw::mandrozsi_report(self, board.as_ptr(), board.len(), name) }.done()?;
+        Ok(Stream {
+            weight: reply.first,
+            pieces: reply.second,
+            spacing: reply.third,
+        })
+    }
+
+    /// Writes the board's sheet to the start of the output: the bytes written.
+    pub fn save(self, board: &[u16], output: &mut [u8]) -> Result<usize, Refusal> {
+        let reply = unsafe { raw::mandrozsi_save(self, board.as_ptr(), board.len(), output.as_mut_ptr(), output.len()) };
+        Ok(usize::from(reply.done()?.first))
+    }
+
+    /// Sets the leaves of a board to those of a sheet: a record at the start of a round.
+    pub fn read(sheet: &[u8], board: &mut [u16]) -> Result<Drive, Refusal> {
+        let reply = unsafe { raw::mandrozsi_read(sheet.as_ptr(), sheet.len(), board.as_mut_ptr(), board.len()) };
+        Ok(reply.done()?.drive)
+    }
+
+    /// The bytes of the sheet of a board of this capacity.
+    pub const fn sheet_bytes(self) -> usize {
+        (self.capacity as usize).div_ceil(Drive::LEAVES_PER_BLOCK) * Drive::BLOCK_BYTES
+    }
+}

@@ -1,0 +1,24 @@
+//! The boundary as it stands: the functions of the static library. A slice is a pointer that is never null, and then a length.
+use crate::Drive;
+
+/// What every function answers: the record, the number (0 for done), and the values; a value that an answer does not have is 0.
+#[repr(C)]
+#[derive(Clone, Copy, Debug, PartialEq, Eq)]
+pub struct Reply {
+    pub drive: Drive,
+    pub number: u16,
+    pub first: u16,
+    pub second: u16,
+    pub third: u16,
+}
+
+extern "C" {
+    pub fn mandrozsi_open(capacity: u16, board: *mut u16, entries: usize) -> Reply;
+    pub fn mandrozsi_add(drive: Drive, board: *mut u16, entries: usize, name: u16, weight: u16) -> Reply;
+    pub fn mandrozsi_remove(drive: Drive, board: *mut u16, entries: usize, name: u16) -> Reply;
+    pub fn mandrozsi_slot(drive: Drive, board: *const u16, entries: usize) -> Reply;
+    pub fn mandrozsi_round(drive: Drive, board: *const u16, entries: usize, output: *mut u16, length: usize) -> Reply;
+    pub fn mandrozsi_report(drive: Drive, board: *const u16, entries: usize, name: u16) -> Reply;
+    pub fn mandrozsi_save(drive: Drive, board: *const u16, entries: usize, output: *mut u8, length: usize) -> Reply;
+    pub fn mandrozsi_read(sheet: *const u8, length: usize, board: *mut u16, entries: usize) -> Reply;
+}

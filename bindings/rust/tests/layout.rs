@@ -1,0 +1,125 @@
+//! The Rust types against the C header: the header is read, and its structs, numbers and functions are held to what this crate has.
+use mandrozsi::raw::Reply;
+use mandrozsi::{Drive, Refusal};
+use std::mem::{align_of, offset_of, size_of};
+
+const HEADER: &str = include_str!("../../c/mandrozsi.h");
+
+/// The header without its comments.
+fn code() -> String {
+    let mut out = String::new();
+    let mut rest = HEADER;
+    while let Some((before, after)) = rest.split_once("/*") {
+        out.push_str(before);
+        rest = after.split_once("*/").expect("a comment ends").1;
+    }
+    out + rest
+}
+
+/// The fields of a struct of the header with their offsets, and its size: C's layout of members of 16-bit numbers.
+fn layout(code: &str, name: &str) -> (Vec<(String, usize)>, usize) {
+    let body = code
+        .split_once(&format!("typedef struct {name} {{"))
+        .expect("the struct is there")
+        .1
+        .split_once('}')
+        .unwrap()
+        .0;
+    let (mut fields, mut at) = (Vec::new(), 0);
+    for member in body.split(';').map(str::trim).filter(|m| !m.is_empty()) {
+        let (kind, field) = member.split_once(' ').unwrap();
+        fields.push((field.to_string(), at));
+        at += if kind == "uint16_t" { 2 } else { layout(code, kind).1 };
+    }
+    (fields, at)
+}
+
+fn named(pairs: &[(&str, usize)]) -> Vec<(String, usize)> {
+    pairs.iter().map(|&(name, at)| (name.to_string(), at)).collect()
+}
+
+#[test]
+fn structs() {
+    let code = code();
+    let drive = [("capacity", offset_of!(Drive, capacity)), ("position", offset_of!(Drive, position))];
+    assert_eq!(layout(&code, "mandrozsi_drive"), (named(&drive), size_of::<Drive>()));
+    let reply = [
+        ("drive", offset_of!(Reply, drive)),
+        ("number", offset_of!(Reply, number)),
+        ("first", offset_of!(Reply, first)),
+        ("second", offset_of!(Reply, second)),
+        ("third", offset_of!(Reply, third)),
+    ];
+    assert_eq!(layout(&code, "mandrozsi_reply"), (named(&reply), size_of::<Reply>()));
+    assert_eq!((align_of::<Drive>(), align_of::<Reply>()), (2, 2));
+}
+
+#[test]
+fn numbers() {
+    let code = code();
+    let body = code.split_once("enum mandrozsi_number {").unwrap().1.split_once('}').unwrap().0;
+    let lines: Vec<_> = body
+        .split(',')
+        .map(|line| line.trim().split_once(" = ").expect("NAME = number"))
+        .collect();
+    assert_eq!(lines[0], ("MANDROZSI_DONE", "0"));
+    assert_eq!(lines.len(), 13);
+    for (refusal, (name, number)) in Refusal::ALL.iter().zip(&lines[1..]) {
+        assert_eq!(*name, format!("MANDROZSI_{}", format!("{refusal:?}").to_uppercase()));
+        assert_eq!(number.parse(), Ok(refusal.number()));
+        assert_eq!(Refusal::from_number(refusal.number()), Some(*refusal));
+    }
+    assert_eq!((Refusal::from_number(0), Refusal::from_number(13)), (None, None));
+}
+
+#[test]
+fn limits() {
+    for (name, value) in [
+        ("LARGEST", Drive::LARGEST),
+        ("BLOCK_BYTES", Drive::BLOCK_BYTES),
+        ("LEAVES_PER_BLOCK", Drive::LEAVES_PER_BLOCK),
+    ] {
+        assert!(HEADER.contains(&format!("#define MANDROZSI_{name} {value}\n")), "{name}");
+    }
+}
+
+/// A declaration as words: its name, then the kinds of its parameters.
+fn kinds(parameters: &str, rust: bool) -> Vec<String> {
+    let kind = |p: &str| {
+        let kind = if rust {
+            p.split_once(": ").unwrap().1
+        } else {
+            p.rsplit_once([' ', '*']).unwrap().0
+        };
+        let pointer = if rust { kind.starts_with('*') } else { p.contains('*') };
+        let shared = kind.contains("const");
+        let bare = ["u16", "uint16_t"].iter().any(|t| kind.contains(t)).then_some("u16");
+        let bare = bare.or(["*mut u8", "*const u8", "uint8_t"].iter().any(|t| kind.contains(t)).then_some("u8"));
+        let bare = bare.or((kind.contains("usize") || kind.contains("size_t")).then_some("size"));
+        format!(
+            "{}{}{}",
+            if shared { "const " } else { "" },
+            bare.unwrap_or("drive"),
+            if pointer { " *" } else { "" }
+        )
+    };
+    parameters.split(',').map(|p| kind(p.trim())).collect()
+}
+
+fn declared<'a>(text: &'a str, before: &str, rust: bool) -> Vec<(&'a str, Vec<String>)> {
+    let mut found = Vec::new();
+    for part in text.split(before).skip(1) {
+        let (name, rest) = part.split_once('(').unwrap();
+        found.push((name, kinds(rest.split_once(')').unwrap().0, rust)));
+    }
+    found
+}
+
+#[test]
+fn functions() {
+    let code = code();
+    let header = declared(&code, "mandrozsi_reply mandrozsi_", false);
+    let rust = declared(include_str!("../src/raw.rs"), "pub fn mandrozsi_", true);
+    assert_eq!(header.len(), 8);
+    assert_eq!(header, rust);
+}

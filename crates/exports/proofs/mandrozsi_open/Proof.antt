@@ -1,0 +1,22 @@
+-- `mandrozsi_open` meets its contract. Assumes nothing.
+use mathlib.Core.Path.{ap}
+use Rattle.calls.specs.declared.Opened.{Opened}
+use Rattle.exports.proofs.Replying.{replied}
+use borrow.Author.Needs.{needs}
+use Rattle.exports.proofs.mandrozsi_open.Statement.{statement}
+use Rattle.exports.proofs.mandrozsi_open.Tie as tie
+
+open-requires : tie.Need-open-requires
+open-requires c κs = search needs
+
+reply-opening-requires : tie.Need-reply-opening-requires
+reply-opening-requires c κs = search needs
+
+same-length : tie.Need-same-length
+same-length c = search needs
+
+returns : tie.Need-returns
+returns c = (replied (c .reply-opening .ensures) (ap (λ (r : Opened). r .drive) (c .before .before .before .before .«open» .ensures .0)) (c .before .before .before .before .«open» .ensures .1), c .before .before .before .before .«open» .ensures .2)
+
+pub mandrozsi-open-spec : {M : Type 1} → statement M
+mandrozsi-open-spec = tie.close (tie.spec open-requires reply-opening-requires same-length returns)

@@ -1,0 +1,22 @@
+-- `mandrozsi_read` meets its contract. Assumes nothing.
+use mathlib.Core.Path.{ap}
+use Rattle.sheets.specs.declared.Loaded.{Loaded}
+use Rattle.exports.proofs.Replying.{replied}
+use borrow.Author.Needs.{needs}
+use Rattle.exports.proofs.mandrozsi_read.Statement.{statement}
+use Rattle.exports.proofs.mandrozsi_read.Tie as tie
+
+read-requires : tie.Need-read-requires
+read-requires c κs = search needs
+
+reply-loading-requires : tie.Need-reply-loading-requires
+reply-loading-requires c κs = search needs
+
+same-length : tie.Need-same-length
+same-length c = search needs
+
+returns : tie.Need-returns
+returns c = (replied (c .reply-loading .ensures) (ap (λ (r : Loaded). r .drive) (c .before .before .before .before .read .ensures .0)) (c .before .before .before .before .read .ensures .1), c .before .before .before .before .read .ensures .2)
+
+pub mandrozsi-read-spec : {M : Type 1} → statement M
+mandrozsi-read-spec = tie.close (tie.spec read-requires reply-loading-requires same-length returns)

@@ -1,0 +1,19 @@
+-- `mandrozsi_report` meets its contract. Assumes nothing.
+use mathlib.Core.Path.{ap}
+use Rattle.calls.specs.declared.Reported.{Reported}
+use Rattle.exports.proofs.Replying.{replied}
+use borrow.Author.Needs.{needs}
+use Rattle.exports.proofs.mandrozsi_report.Statement.{statement}
+use Rattle.exports.proofs.mandrozsi_report.Tie as tie
+
+report-requires : tie.Need-report-requires
+report-requires c κs = search needs
+
+reply-report-requires : tie.Need-reply-report-requires
+reply-report-requires c κs = search needs
+
+returns : tie.Need-returns
+returns c = replied (c .reply-report .ensures) (ap (λ (r : Reported). r .drive) (c .before .before .report .ensures .0)) (c .before .before .report .ensures .1)
+
+pub mandrozsi-report-spec : {M : Type 1} → statement M
+mandrozsi-report-spec = tie.close (tie.spec report-requires reply-report-requires returns)
