@@ -176,20 +176,27 @@ module _ (C : ℕ) (B : List ℕ) where
         | no r ↦ omega (arith, runs-split x e a l r, runs-other x y e a l (whole-low y a l h) n, runs-other x y e (a + 2 ^ l) l (whole-high y a l h) n)
       ]
 
-  -- a name that no leaf of the board holds has no run
-  pub runs-absent : (x : ℕ) → ((i : ℕ) → i < C → getD B i 0 ≡ x → ⊥) → (e a l : ℕ) → runs C B x e a l ≡ 0
-  runs-absent x h e a l = go l a
-    where
-      gone : (b m : ℕ) → whole C B x b m ≡ false
-      gone b m = by-bool (whole C B x b m) (λ t. let w = whole-elim C B x b m t b (omega arith) (omega (arith, pow-pos m)) in absurd (h b (w .0) (w .1))) (λ f. f)
+  no-whole : (x l a : ℕ) → ((i : ℕ) → a ≤ i → i < a + 2 ^ l → i < C → getD B i 0 ≡ x → ⊥) → whole C B x a l ≡ false
+  no-whole x l a h =
+      by-bool (whole C B x a l) (λ t. let w = whole-elim C B x a l t a (omega arith) (omega (arith, pow-pos l)) in absurd (h a (omega arith) (omega (arith, pow-pos l)) (w .0) (w .1))) (λ f. f)
 
-      go : (m b : ℕ) → runs C B x e b m ≡ 0
-      go zero b =
-          elim (ℕ-discrete e 0) [
-            | yes r ↦ rw r (runs-no x b 0 (gone b 0))
-            | no r ↦ runs-above x e b 0 (omega arith)
-          ]
-      go (suc m) b = omega (arith, runs-apart x e b m (gone b (suc m)), go m b, go m (b + 2 ^ m))
+  -- a name that no leaf of a block holds has no run there
+  pub runs-none : (x e l a : ℕ) → ((i : ℕ) → a ≤ i → i < a + 2 ^ l → i < C → getD B i 0 ≡ x → ⊥) → runs C B x e a l ≡ 0
+  runs-none x e zero a h =
+      elim (ℕ-discrete e 0) [
+        | yes r ↦ rw r (runs-no x a 0 (no-whole x 0 a h))
+        | no r ↦ runs-above x e a 0 (omega arith)
+      ]
+  runs-none x e (suc l) a h =
+      omega (
+        arith,
+        runs-apart x e a l (no-whole x (suc l) a h),
+        runs-none x e l a (λ i p q. h i p (omega (arith, two-pow-succ l))),
+        runs-none x e l (a + 2 ^ l) (λ i p q. h i (omega arith) (omega (arith, two-pow-succ l))),
+      )
+
+  pub runs-absent : (x : ℕ) → ((i : ℕ) → i < C → getD B i 0 ≡ x → ⊥) → (e a l : ℕ) → runs C B x e a l ≡ 0
+  runs-absent x h e a l = runs-none x e l a (λ i p q. h i)
 
   -- ---- counting pieces
 

@@ -227,14 +227,17 @@ module _ (C : ℕ) (B : List ℕ) where
     seen-le : (a l : ℕ) → seen C B a l ≤ 65536
     seen-le a l = by-bool (whole C B (getD B a 0) a l) (λ t. omega (arith, seen-run (getD B a 0) a l t, small a)) (λ f. omega (arith, seen-parts a l f))
 
-    pub scanned-leaf : (a l : ℕ) (M : List ℕ) → l ≡ 0 → a < C → Scanned C B a l M M (getD B a 0)
-    scanned-leaf a l M z h =
-        let t : whole C B (getD B a 0) a l ≡ true = rw z (whole-intro C B (getD B a 0) a 0 (λ i p q. let r : i ≡ a = omega arith in rw r (h, refl))) in
+    -- a block that is a run
+    pub scanned-run : (a l : ℕ) (M : List ℕ) → whole C B (getD B a 0) a l ≡ true → Scanned C B a l M M (getD B a 0)
+    scanned-run a l M t =
         record {
           answer = inl (sym (seen-run (getD B a 0) a l t));
           once = λ n x e p q. omega (arith, inner-run x (getD B a 0) e a l t);
           twice = λ r. absurd (omega (arith, small a));
         }
+
+    pub scanned-leaf : (a l : ℕ) (M : List ℕ) → l ≡ 0 → a < C → Scanned C B a l M M (getD B a 0)
+    scanned-leaf a l M z h = scanned-run a l M (rw z (whole-intro C B (getD B a 0) a 0 (λ i p q. let r : i ≡ a = omega arith in rw r (h, refl))))
 
     pub scanned-low : (a l h : ℕ) (M M₁ : List ℕ) → l ≡ suc h → Scanned C B a h M M₁ 65537 → Scanned C B a l M M₁ 65537
     scanned-low a l h M M₁ z u =

@@ -15,7 +15,7 @@ use Rattle.pieces.specs.Board.{whole, pieces, nth}
 use Rattle.pieces.specs.Placing.{first}
 use Rattle.pieces.specs.Tidying.{pair}
 use Rattle.pieces.specs.Halving.{inner, entered, MetIdle, Listed, smallestPair, Paired}
-use Rattle.pieces.proofs.Blocks.{by-bool, clash, past, whole-intro, whole-low, whole-high, whole-join, whole-name, whole-end, pieces-past, pieces-yes, pieces-no, pieces-runs, runs-above, pieces-own}
+use Rattle.pieces.proofs.Blocks.{by-bool, clash, past, whole-intro, whole-low, whole-high, whole-join, whole-name, whole-end, pieces-past, pieces-yes, pieces-no, pieces-runs, runs-above, pieces-own, whole-elim, runs-none}
 use Rattle.pieces.proofs.Replace.{bounds}
 use Rattle.pieces.proofs.Piece.{pieces-apart, nth-piece, nth-low, nth-high, nth-whole}
 use Rattle.pieces.proofs.Adding.{first-le, first-hit, first-before}
@@ -77,6 +77,15 @@ module _ (C : ℕ) (B : List ℕ) where
 
   pub listed-past : (a l : ℕ) (S : List ℕ) → C ≤ a → Listed C B a l S S false
   listed-past a l S h = let f = past C B 0 a l h in still a l S false (sym f) (λ e. inner-not e a l f ∙ pieces-past C B 0 e a l h)
+
+  -- a block with no idle leaf, and one that is idle
+  pub listed-none : (a l : ℕ) (S : List ℕ) → ((i : ℕ) → a ≤ i → i < a + 2 ^ l → i < C → getD B i 0 ≡ 0 → ⊥) → Listed C B a l S S false
+  listed-none a l S h =
+      let f : whole C B 0 a l ≡ false = by-bool (whole C B 0 a l) (λ t. let w = whole-elim C B 0 a l t a (omega arith) (omega (arith, pow-pos l)) in absurd (h a (omega arith) (omega (arith, pow-pos l)) (w .0) (w .1))) (λ f. f) in
+      still a l S false (sym f) (λ e. inner-not e a l f ∙ omega (arith, pieces-runs C B 0 e a l, runs-none C B 0 e l a h))
+
+  pub listed-run : (a l : ℕ) (S : List ℕ) → whole C B 0 a l ≡ true → Listed C B a l S S true
+  listed-run a l S t = still a l S true (sym t) (λ e. inner-idle e a l t)
 
   pub listed-leaf : (a l : ℕ) (S : List ℕ) → l ≡ 0 → a < C → Listed C B a l S S (eqb (getD B a 0) 0)
   listed-leaf a l S z h =

@@ -8,13 +8,13 @@ use native.Mathlib.Omega.{arith}
 use native.Mathlib.Decide.{decLt, decLe}
 use lib.Dec.{eqb}
 use lib.ListN.{getD}
-use lib.Pow.{pow-mono}
+use lib.Pow.{pow-pos, pow-mono}
 use borrow.Author.Tests.{lt-ltb, le-ltb, eq-eqb, eqb-true}
 use Rattle.pieces.specs.declared.Spot.{Spot}
 use Rattle.pieces.specs.Board.{whole, pieces, nth}
 use Rattle.pieces.specs.Placing.{fit, spot}
 use Rattle.pieces.specs.Halving.{Sought, Spotted, nowhere, settled, nearer, joined}
-use Rattle.pieces.proofs.Blocks.{by-bool, clash, and-left, and-right, past, whole-intro, whole-low, whole-high, whole-join, whole-name, whole-end, pieces-past, pieces-yes, pieces-no, pieces-own, pieces-top}
+use Rattle.pieces.proofs.Blocks.{by-bool, clash, and-left, and-right, past, whole-intro, whole-low, whole-high, whole-join, whole-name, whole-end, pieces-past, pieces-yes, pieces-no, pieces-own, pieces-top, whole-elim, pieces-runs, runs-none}
 use Rattle.pieces.proofs.Piece.{pieces-apart, pieces-none, nth-low, nth-high, nth-whole}
 use Rattle.pieces.proofs.Adding.{fit-least, fit-large, spot-piece}
 
@@ -25,6 +25,17 @@ module _ (C : ℕ) (B : List ℕ) where
 
     pub spotted-past : (a l : ℕ) → C ≤ a → Spotted C B n a l nowhere
     spotted-past a l h = record { run = λ t. clash t (past C B 0 a l h); part = λ f. sought-nothing a l (λ e p q. pieces-past C B 0 e a l h) }
+
+    -- a block with no idle leaf, and one that is idle
+    pub spotted-none : (a l : ℕ) → ((i : ℕ) → a ≤ i → i < a + 2 ^ l → i < C → getD B i 0 ≡ 0 → ⊥) → Spotted C B n a l nowhere
+    spotted-none a l h =
+        record {
+          run = λ t. let w = whole-elim C B 0 a l t a (omega arith) (omega (arith, pow-pos l)) in absurd (h a (omega arith) (omega (arith, pow-pos l)) (w .0) (w .1));
+          part = λ f. sought-nothing a l (λ e p q. omega (arith, pieces-runs C B 0 e a l, runs-none C B 0 e l a h));
+        }
+
+    pub spotted-run : (a l k : ℕ) → l ≡ k → whole C B 0 a l ≡ true → Spotted C B n a l (record { exponent = k; start = a })
+    spotted-run a l k z t = record { run = λ _. (sym z, refl); part = λ f. clash t f }
 
     pub spotted-leaf : (a l : ℕ) → l ≡ 0 → a < C → getD B a 0 ≡ 0 → Spotted C B n a l (record { exponent = 0; start = a })
     spotted-leaf a l z h e =

@@ -1,5 +1,5 @@
 -- What each loop's definition says of one step more, and a block of its halves. Assumes nothing.
-use mathlib.Core.Path.{_≡_, refl, sym, ap, _∙_}
+use mathlib.Core.Path.{_≡_, refl, sym, ap, _∙_, subst}
 use mathlib.Core.Bool.{Bool, true, false, _&&_}
 use mathlib.Core.List.{List}
 use mathlib.Core.Logic.{_⊎_, ⊎-elim}
@@ -7,15 +7,15 @@ use Prim.Native.Nat.{ℕ, zero, suc, _+_, _-_, _^_, _/_, _%_, _≤_, _<_}
 use native.Mathlib.Nat.{pow-suc, div-eq-of-lt}
 use native.Mathlib.Numerals.{add-one, sub-one}
 use native.Mathlib.Omega.{arith}
-use native.Mathlib.Decide.{decLt}
+use native.Mathlib.Decide.{decLt, ℕ-discrete}
 use lib.Dec.{ltb, eqb}
 use lib.ListN.{getD, set, replicate}
-use borrow.Author.Tests.{eq-eqb, ne-eqb, ltb-true}
-use Rattle.pieces.specs.Board.{weight, pieces}
+use borrow.Author.Tests.{eq-eqb, ne-eqb, ltb-true, eqb-true, eqb-false}
+use Rattle.pieces.specs.Board.{weight, pieces, whole}
 use Rattle.pieces.specs.Placing.{fill, first, fit, put, place, putDigit, Placeable}
 use Rattle.pieces.specs.Tidying.{copy, clear, twin}
-use Rattle.pieces.specs.Halving.{Apart, Roomy, Fitting, roomy}
-use Rattle.pieces.proofs.Blocks.{by-bool, and-left, and-right}
+use Rattle.pieces.specs.Halving.{Apart, Roomy, Fitting, roomy, countFrom, Idle}
+use Rattle.pieces.proofs.Blocks.{by-bool, and-left, and-right, bit-le, whole-intro}
 use Rattle.pieces.proofs.Weight.{weight-total}
 use Rattle.pieces.proofs.Adding.{placed-roomy}
 use Rattle.pieces.proofs.Literal.{good-elim}
@@ -128,3 +128,55 @@ pub replicate-at : (n x i : ℕ) → i < n → getD (replicate n x) i 0 ≡ x
 replicate-at zero x i h = absurd (omega arith)
 replicate-at (suc n) x zero h = refl
 replicate-at (suc n) x (suc i) h = replicate-at n x i (omega arith)
+
+-- ---- a block of leaves counted
+
+pub count-hit : (B : List ℕ) (x a i : ℕ) → getD B (a + i) 0 ≡ x → countFrom B x a (i + 1) ≡ countFrom B x a i + 1
+unfolding countFrom
+count-hit B x a i e = rw (add-one i, eq-eqb (getD B (a + i) 0) x e) refl
+
+pub count-miss : (B : List ℕ) (x a i : ℕ) → (getD B (a + i) 0 ≡ x → ⊥) → countFrom B x a (i + 1) ≡ countFrom B x a i
+unfolding countFrom
+count-miss B x a i e = rw (add-one i, ne-eqb (getD B (a + i) 0) x e) (omega arith)
+
+count-le : (B : List ℕ) (x a n : ℕ) → countFrom B x a n ≤ n
+unfolding countFrom
+count-le B x a zero = omega arith
+count-le B x a (suc n) = omega (arith, count-le B x a n, bit-le (eqb (getD B (a + n) 0) x))
+
+count-all : (B : List ℕ) (x a n : ℕ) → countFrom B x a n ≡ n → (i : ℕ) → i < n → getD B (a + i) 0 ≡ x
+unfolding countFrom
+count-all B x a zero e i h = absurd (omega arith)
+count-all B x a (suc n) e i h =
+    by-bool (eqb (getD B (a + n) 0) x)
+    (λ t. elim (ℕ-discrete i n) [
+      | yes r ↦ rw r (eqb-true (getD B (a + n) 0) x t)
+      | no r ↦ count-all B x a n (let e′ : countFrom B x a n + 1 ≡ suc n = rw t at e in omega arith) i (omega arith)
+    ])
+    (λ f. absurd (let e′ : countFrom B x a n + 0 ≡ suc n = rw f at e in omega (arith, count-le B x a n)))
+
+count-none : (B : List ℕ) (x a n : ℕ) → countFrom B x a n ≡ 0 → (i : ℕ) → i < n → getD B (a + i) 0 ≡ x → ⊥
+unfolding countFrom
+count-none B x a zero e i h q = omega arith
+count-none B x a (suc n) e i h q =
+    by-bool (eqb (getD B (a + n) 0) x)
+    (λ t. let e′ : countFrom B x a n + 1 ≡ 0 = rw t at e in omega arith)
+    (λ f. elim (ℕ-discrete i n) [
+      | yes r ↦ eqb-false (getD B (a + n) 0) x f (subst (λ (j : ℕ). getD B (a + j) 0 ≡ x) r q)
+      | no r ↦ count-none B x a n (let e′ : countFrom B x a n + 0 ≡ 0 = rw f at e in omega arith) i (omega arith) q
+    ])
+
+-- sixteen of sixteen make a run
+pub count-whole : (C : ℕ) (B : List ℕ) (x a : ℕ) → a + 16 ≤ C → countFrom B x a 16 ≡ 16 → whole C B x a 4 ≡ true
+count-whole C B x a h e =
+    whole-intro C B x a 4 (λ i p q. (omega arith, subst (λ (j : ℕ). getD B j 0 ≡ x) (let z : a + (i - a) ≡ i = omega arith in z) (count-all B x a 16 e (i - a) (omega arith))))
+
+pub count-idle : (C : ℕ) (B : List ℕ) (a : ℕ) → a + 16 ≤ C → (r : ℕ) → r ≡ countFrom B 0 a 16 → Idle C B a 4 r
+count-idle C B a h r e =
+    record {
+      none = λ z i p q c t. count-none B 0 a 16 (sym e ∙ z) (i - a) (omega arith) (subst (λ (j : ℕ). getD B j 0 ≡ 0) (let y : i ≡ a + (i - a) = omega arith in y) t);
+      run = λ z. count-whole C B 0 a h (sym e ∙ z);
+    }
+
+pub idle-unknown : (C : ℕ) (B : List ℕ) (a : ℕ) → Idle C B a 4 1
+idle-unknown C B a = record { none = λ z. absurd (omega arith); run = λ z. absurd (omega arith) }

@@ -23,6 +23,16 @@ pub record Block (C n a l : ℕ) : Type 0 where
 unfoldable pub inner : ℕ → List ℕ → ℕ → ℕ → ℕ → ℕ → ℕ
 inner C B x e a l = cond (whole C B (getD B a 0) a l) 0 (pieces C B x e a l)
 
+-- how many of the n leaves from a on hold x
+unfoldable pub countFrom : List ℕ → ℕ → ℕ → ℕ → ℕ
+countFrom B x a zero = 0
+countFrom B x a (suc n) = countFrom B x a n + bit (eqb (getD B (a + n) 0) x)
+
+-- r tells two blocks: 0 one with no idle leaf, 2^l one that is idle
+pub record Idle (C : ℕ) (B : List ℕ) (a l r : ℕ) : Type 0 where
+  pub none : r ≡ 0 → (i : ℕ) → a ≤ i → i < a + 2 ^ l → i < C → getD B i 0 ≡ 0 → ⊥
+  pub run : r ≡ 2 ^ l → whole C B 0 a l ≡ true
+
 -- ---- the test for a good board
 
 -- n cells of 0

@@ -1,9 +1,10 @@
 // Pieces of a slot board: the test for a good board, the search for idle pieces, placing and tidying.
 // A board is a lent slice of leaves of which the first c count. Searches halve the block of 2^12 leaves that holds every board.
 ghost use mathlib.Core.Path.{_≡_};
+ghost use mathlib.Core.Bool.{true};
 ghost use mathlib.Core.List.{List};
 ghost use Prim.Native.Nat.{ℕ, suc, _+_, _^_, _≤_, _<_};
-ghost use lib.ListN.{length};
+ghost use lib.ListN.{getD, length};
 ghost use Rattle.pieces.specs.Board as boards;
 ghost use Rattle.pieces.specs.Placing as placing;
 ghost use Rattle.pieces.specs.Tidying as tidying;
@@ -31,6 +32,44 @@ pub fn weigh(board: &[u16], c: usize, name: u16) -> usize
         i += 1;
     }
     n
+}
+
+// How many of the sixteen leaves from a on hold a name. The searches ask it at the bottom, where most blocks are of one name.
+fn count_sixteen(board: &[u16], a: usize, x: u16) -> usize
+    requires { ⌜ (a + 16 ≤ length (now board)) × (a + 16 ≤ 4096) ⌝ }
+    ensures { λ r. ⌜ r ≡ halving.countFrom (now (board .entry)) x a 16 ⌝ }
+{
+    let mut n: usize = 0;
+    let mut i: usize = 0;
+    while i < 16 {
+        if board[a + i] == x {
+            n += 1;
+        }
+        i += 1;
+    }
+    n
+}
+
+// Whether the sixteen leaves from a on are a run of one name; no where they do not all lie on the board.
+fn same_sixteen(board: &[u16], c: usize, a: usize) -> bool
+    requires { ⌜ halving.Block c (length (now board)) a 4 ⌝ }
+    ensures { λ r. ⌜ (r ≡ true → boards.whole c (now (board .entry)) (getD (now (board .entry)) a 0) a 4 ≡ true) ⌝ }
+{
+    if a + 16 <= c {
+        return count_sixteen(board, a, board[a]) == 16;
+    }
+    false
+}
+
+// How many of the sixteen leaves from a on are idle; 1 where they do not all lie on the board.
+fn idle_sixteen(board: &[u16], c: usize, a: usize) -> usize
+    requires { ⌜ halving.Block c (length (now board)) a 4 ⌝ }
+    ensures { λ r. ⌜ halving.Idle c (now (board .entry)) a 4 r ⌝ }
+{
+    if a + 16 <= c {
+        return count_sixteen(board, a, 0);
+    }
+    1
 }
 
 // ---- the test for a good board
@@ -121,6 +160,11 @@ fn scan(board: &[u16], c: usize, a: usize, l: usize, sizes: &mut [u16]) -> usize
     }
     if l == 2 {
         return scan_four(board, c, a, sizes);
+    }
+    if l == 4 {
+        if same_sixteen(board, c, a) {
+            return board[a] as usize;
+        }
     }
     let h = l - 1;
     let f = scan(board, c, a, h, sizes);
@@ -252,6 +296,21 @@ fn seek(board: &[u16], c: usize, a: usize, l: usize, n: usize) -> Spot
     }
     if l == 2 {
         return seek_four(board, c, a, n);
+    }
+    if l == 4 {
+        let idle = idle_sixteen(board, c, a);
+        if idle == 0 {
+            return Spot {
+                exponent: 13,
+                start: 0,
+            };
+        }
+        if idle == 16 {
+            return Spot {
+                exponent: 4,
+                start: a,
+            };
+        }
     }
     let h = l - 1;
     let f = seek(board, c, a, h, n);
@@ -398,6 +457,15 @@ fn list_idle(board: &[u16], c: usize, a: usize, l: usize, starts: &mut [usize]) 
     }
     if l == 2 {
         return list_four(board, c, a, starts);
+    }
+    if l == 4 {
+        let idle = idle_sixteen(board, c, a);
+        if idle == 0 {
+            return false;
+        }
+        if idle == 16 {
+            return true;
+        }
     }
     let h = l - 1;
     let m = a + size_of(h);
