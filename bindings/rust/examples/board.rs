@@ -1,5 +1,9 @@
-//! A drive with three streams for one round; then its board is saved and read back. `cargo run --example board`.
-#[cfg(linked)]
+//! A drive with four streams for one round; then its board is saved and read back. `cargo run --example board`.
+#[cfg(served)]
+#[path = "../tests/boundary/served.rs"]
+mod served;
+
+#[cfg(any(linked, served))]
 fn main() -> Result<(), mandrozsi::Refusal> {
     use mandrozsi::Drive;
 
@@ -24,7 +28,7 @@ fn main() -> Result<(), mandrozsi::Refusal> {
     Ok(())
 }
 
-#[cfg(not(linked))]
+#[cfg(not(any(linked, served)))]
 fn main() {
     println!("built without the static library: see build.rs");
 }

@@ -1,5 +1,5 @@
 //! The library beside document 01 by the letter: every call, every refusal, every lent entry, on every small board and on random histories.
-#![cfg(linked)]
+#![cfg(any(linked, served))]
 mod boundary;
 
 use boundary::{drive, Boundary};
@@ -54,14 +54,20 @@ impl Calls for Safe {
     }
 }
 
+/// Compares, and says how much and how it was called.
+fn compared(name: &str, calls: &impl Calls, seeds: u64) {
+    let count = compare(calls, seeds);
+    let how = if cfg!(linked) { "linked" } else { "each made by serve.c" };
+    println!("{name}: {count} calls compared, {how}");
+    assert!(count > 100_000);
+}
+
 #[test]
 fn the_boundary_is_the_letter() {
-    let calls = compare(&Boundary, 600);
-    println!("{calls} calls compared");
-    assert!(calls > 100_000);
+    compared("the boundary", &Boundary, 600);
 }
 
 #[test]
 fn the_safe_types_are_the_letter() {
-    compare(&Safe, 200);
+    compared("the safe types", &Safe, 200);
 }

@@ -4,6 +4,9 @@ use mandrozsi::Drive;
 use paper::trial::Calls;
 use paper::Answer;
 
+#[cfg(served)]
+mod served;
+
 pub fn drive((capacity, position): (u16, u16)) -> Drive {
     Drive { capacity, position }
 }

@@ -1,0 +1,99 @@
+/* Makes the library's calls for another process: for the comparison from Rust (bindings/rust/tests/boundary/served.rs) on a machine whose
+ * Rust cannot link the archive. It reads calls on standard input until it ends, and answers each on standard output:
+ *
+ *   a call    struct call below, then the bytes of the board, then the bytes of the output or sheet
+ *   an answer mandrozsi_reply, then the same bytes as the call left them
+ *
+ * Numbers lie as in memory, so both ends must keep the low byte first. Every slice is lent where it ends against a page that cannot be
+ * touched, and with marked bytes before it: a call that reads or writes beyond a slice, or writes before it, ends this program, and with it
+ * the comparison. It needs mmap, which C11 alone does not have. */
+#define _DEFAULT_SOURCE
+#include <stdio.h>
+#include <stdlib.h>
+#include <string.h>
+#include <sys/mman.h>
+
+#include "mandrozsi.h"
+
+/* The most bytes of a slice and of the page behind it (a multiple of any page size in use), and the marked bytes before a slice. */
+enum { ROOM = 65536, MARKED = 64, MARK = 0xA5 };
+
+enum { OPEN, ADD, REMOVE, SLOT, ROUND, REPORT, SAVE, READ };
+
+/* What is called, with what; then the bytes of the two slices, 0 for the second where the call has none. */
+struct call {
+    uint16_t number, name, weight;
+    mandrozsi_drive drive;
+    uint16_t board_bytes, other_bytes;
+};
+_Static_assert(sizeof(struct call) == 14, "a call is seven 16-bit numbers");
+
+static void end(const char *why)
+{
+    fprintf(stderr, "serve: %s\n", why);
+    exit(1);
+}
+
+/* Room for one slice: the place where it ends. */
+static uint8_t *room(void)
+{
+    uint8_t *start = mmap(NULL, 2 * ROOM, PROT_READ | PROT_WRITE, MAP_PRIVATE | MAP_ANONYMOUS, -1, 0);
+    if (start == MAP_FAILED || mprotect(start + ROOM, ROOM, PROT_NONE) != 0)
+        end("no memory");
+    return start + ROOM;
+}
+
+/* Reads a slice of some bytes to where it ends at a place, and marks what stands before it. */
+static uint8_t *lend(uint8_t *place, size_t bytes)
+{
+    if (bytes > ROOM - MARKED)
+        end("a slice is too long");
+    uint8_t *slice = place - bytes;
+    memset(slice - MARKED, MARK, MARKED);
+    if (fread(slice, 1, bytes, stdin) != bytes)
+        end("a call is cut short");
+    return slice;
+}
+
+static void give_back(const uint8_t *slice, size_t bytes)
+{
+    for (size_t i = 1; i <= MARKED; i++)
+        if (slice[-(ptrdiff_t)i] != MARK)
+            end("a call wrote before a slice");
+    if (fwrite(slice, 1, bytes, stdout) != bytes)
+        end("an answer cannot be written");
+}
+
+static mandrozsi_reply make(const struct call *c, uint16_t *board, uint8_t *other)
+{
+    size_t entries = c->board_bytes / sizeof *board, length = c->other_bytes;
+    switch (c->number) {
+    case OPEN: return mandrozsi_open(c->drive.capacity, board, entries);
+    case ADD: return mandrozsi_add(c->drive, board, entries, c->name, c->weight);
+    case REMOVE: return mandrozsi_remove(c->drive, board, entries, c->name);
+    case SLOT: return mandrozsi_slot(c->drive, board, entries);
+    case ROUND: return mandrozsi_round(c->drive, board, entries, (uint16_t *)(void *)other, length / sizeof(uint16_t));
+    case REPORT: return mandrozsi_report(c->drive, board, entries, c->name);
+    case SAVE: return mandrozsi_save(c->drive, board, entries, other, length);
+    case READ: return mandrozsi_read(other, length, board, entries);
+    }
+    end("there is no such call");
+    abort();
+}
+
+int main(void)
+{
+    uint8_t *first = room(), *second = room();
+    struct call c;
+    while (fread(&c, sizeof c, 1, stdin) == 1) {
+        uint8_t *board = lend(first, c.board_bytes), *other = lend(second, c.other_bytes);
+        mandrozsi_reply reply = make(&c, (uint16_t *)(void *)board, other);
+        if (fwrite(&reply, sizeof reply, 1, stdout) != 1)
+            end("an answer cannot be written");
+        give_back(board, c.board_bytes);
+        give_back(other, c.other_bytes);
+        if (fflush(stdout) != 0)
+            end("an answer cannot be written");
+    }
+    return 0;
+}

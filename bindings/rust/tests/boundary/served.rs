@@ -1,0 +1,137 @@
+//! The library's functions where it cannot be linked: each hands its call to a process that has the library and makes it there
+//! (bindings/c/serve.c, which says the form of a call and an answer). The crate's declarations find these functions at the link, so all that
+//! stands above them is the same as with the library. `MANDROZSI_SERVE` is the command, one word to a line. Each thread has its own process.
+use mandrozsi::raw::Reply;
+use mandrozsi::Drive;
+use std::cell::RefCell;
+use std::io::{Read, Write};
+use std::mem::size_of;
+use std::process::{Child, ChildStdin, ChildStdout, Command, Stdio};
+use std::slice;
+
+struct Server {
+    calls: ChildStdin,
+    answers: ChildStdout,
+    _process: Child,
+}
+
+impl Server {
+    fn start() -> RefCell<Server> {
+        let command = std::env::var("MANDROZSI_SERVE").expect("MANDROZSI_SERVE names the process that makes the calls");
+        let mut words = command.lines();
+        let mut process = Command::new(words.next().expect("a command has a word"))
+            .args(words)
+            .stdin(Stdio::piped())
+            .stdout(Stdio::piped())
+            .spawn()
+            .expect("the process of MANDROZSI_SERVE starts");
+        RefCell::new(Server {
+            calls: process.stdin.take().unwrap(),
+            answers: process.stdout.take().unwrap(),
+            _process: process,
+        })
+    }
+
+    /// One call, written whole before its answer is read. The head is the start of serve.c's `struct call`.
+    fn ask(&mut self, head: &[u16], board: Lent, other: Lent) -> Reply {
+        let lengths = [&board, &other].map(|slice| u16::try_from(slice.bytes().len()).expect("a slice of the comparison is short"));
+        let mut call: Vec<u8> = head.iter().chain(&lengths).flat_map(|n| n.to_le_bytes()).collect();
+        call.extend_from_slice(board.bytes());
+        call.extend_from_slice(other.bytes());
+        let mut reply = [0; 12];
+        let answered = self.calls.write_all(&call).and_then(|()| self.answers.read_exact(&mut reply));
+        answered.unwrap_or_else(|why| panic!("the process ended at the call {head:?}: {why}"));
+        board.take_back(&mut self.answers);
+        other.take_back(&mut self.answers);
+        let number = |i: usize| u16::from_le_bytes([reply[2 * i], reply[2 * i + 1]]);
+        Reply {
+            drive: Drive {
+                capacity: number(0),
+                position: number(1),
+            },
+            number: number(2),
+            first: number(3),
+            second: number(4),
+            third: number(5),
+        }
+    }
+}
+
+thread_local!(static SERVER: RefCell<Server> = Server::start());
+
+/// The bytes of a lent slice.
+enum Lent<'a> {
+    Shared(&'a [u8]),
+    Changed(&'a mut [u8]),
+}
+
+const NONE: Lent = Lent::Shared(&[]);
+
+impl Lent<'_> {
+    // SAFETY, of both: the pointer and the length are of one slice, lent for the call; its numbers are read as bytes.
+    unsafe fn shared<T>(start: *const T, length: usize) -> Self {
+        Lent::Shared(slice::from_raw_parts(start.cast(), length * size_of::<T>()))
+    }
+    unsafe fn changed<T>(start: *mut T, length: usize) -> Self {
+        Lent::Changed(slice::from_raw_parts_mut(start.cast(), length * size_of::<T>()))
+    }
+
+    fn bytes(&self) -> &[u8] {
+        match self {
+            Lent::Shared(bytes) => bytes,
+            Lent::Changed(bytes) => bytes,
+        }
+    }
+
+    /// Takes the slice as the call left it: one that was lent to be read must be as it was.
+    fn take_back(self, answers: &mut ChildStdout) {
+        let ended = "the process answers with every slice";
+        match self {
+            Lent::Changed(bytes) => answers.read_exact(bytes).expect(ended),
+            Lent::Shared(bytes) => {
+                let mut after = vec![0; bytes.len()];
+                answers.read_exact(&mut after).expect(ended);
+                assert!(after == bytes, "the call changed a slice that it may only read");
+            }
+        }
+    }
+}
+
+fn ask(call: u16, drive: Drive, name: u16, weight: u16, board: Lent, other: Lent) -> Reply {
+    let head = [call, name, weight, drive.capacity, drive.position];
+    SERVER.with_borrow_mut(|server| server.ask(&head, board, other))
+}
+
+// In the order of serve.c. SAFETY: as raw.rs asks, pointer and length are of one slice.
+#[no_mangle]
+unsafe extern "C" fn mandrozsi_open(capacity: u16, board: *mut u16, entries: usize) -> Reply {
+    ask(0, Drive { capacity, position: 0 }, 0, 0, Lent::changed(board, entries), NONE)
+}
+#[no_mangle]
+unsafe extern "C" fn mandrozsi_add(drive: Drive, board: *mut u16, entries: usize, name: u16, weight: u16) -> Reply {
+    ask(1, drive, name, weight, Lent::changed(board, entries), NONE)
+}
+#[no_mangle]
+unsafe extern "C" fn mandrozsi_remove(drive: Drive, board: *mut u16, entries: usize, name: u16) -> Reply {
+    ask(2, drive, name, 0, Lent::changed(board, entries), NONE)
+}
+#[no_mangle]
+unsafe extern "C" fn mandrozsi_slot(drive: Drive, board: *const u16, entries: usize) -> Reply {
+    ask(3, drive, 0, 0, Lent::shared(board, entries), NONE)
+}
+#[no_mangle]
+unsafe extern "C" fn mandrozsi_round(drive: Drive, board: *const u16, entries: usize, output: *mut u16, length: usize) -> Reply {
+    ask(4, drive, 0, 0, Lent::shared(board, entries), Lent::changed(output, length))
+}
+#[no_mangle]
+unsafe extern "C" fn mandrozsi_report(drive: Drive, board: *const u16, entries: usize, name: u16) -> Reply {
+    ask(5, drive, name, 0, Lent::shared(board, entries), NONE)
+}
+#[no_mangle]
+unsafe extern "C" fn mandrozsi_save(drive: Drive, board: *const u16, entries: usize, output: *mut u8, length: usize) -> Reply {
+    ask(6, drive, 0, 0, Lent::shared(board, entries), Lent::changed(output, length))
+}
+#[no_mangle]
+unsafe extern "C" fn mandrozsi_read(sheet: *const u8, length: usize, board: *mut u16, entries: usize) -> Reply {
+    ask(7, Drive::default(), 0, 0, Lent::changed(board, entries), Lent::shared(sheet, length))
+}
