@@ -132,7 +132,7 @@ fn check_good(board: &[u16], c: usize) -> Check
 
 // The refusals 6 and 9, for a name that the board is to hold.
 fn check_held(board: &[u16], c: usize, name: u16) -> Check
-    requires { ⌜ c ≤ length (now board) ⌝ }
+    requires { ⌜ (c ≤ length (now board)) × (c ≤ 4095) ⌝ }
     ensures { λ r. ⌜ r ≡ refusals.heldCheck c (now (board .entry)) name ⌝ }
 {
     if name == 0 {
@@ -146,7 +146,7 @@ fn check_held(board: &[u16], c: usize, name: u16) -> Check
 
 // The refusals 6, 7, 8 and 10, for a name that the board is to take.
 fn check_new(board: &[u16], c: usize, name: u16, weight: usize) -> Check
-    requires { ⌜ c ≤ length (now board) ⌝ }
+    requires { ⌜ (c ≤ length (now board)) × (c ≤ 4095) ⌝ }
     ensures { λ r. ⌜ r ≡ refusals.newCheck c (now (board .entry)) name weight ⌝ }
 {
     if name == 0 {

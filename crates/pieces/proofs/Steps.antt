@@ -4,14 +4,15 @@ use mathlib.Core.Bool.{Bool, true, false, _&&_}
 use mathlib.Core.List.{List}
 use mathlib.Core.Logic.{_⊎_, ⊎-elim}
 use Prim.Native.Nat.{ℕ, zero, suc, _+_, _-_, _^_, _/_, _%_, _≤_, _<_}
-use native.Mathlib.Nat.{pow-suc, div-eq-of-lt}
+use native.Mathlib.Nat.{pow-suc, zero-add, div-eq-of-lt}
 use native.Mathlib.Numerals.{add-one, sub-one}
 use native.Mathlib.Omega.{arith}
 use native.Mathlib.Decide.{decLt, ℕ-discrete}
 use lib.Dec.{ltb, eqb}
 use lib.ListN.{getD, set, replicate}
+use lib.Pow.{pow-pos}
 use borrow.Author.Tests.{eq-eqb, ne-eqb, ltb-true, eqb-true, eqb-false}
-use Rattle.pieces.specs.Board.{weight, pieces, whole}
+use Rattle.pieces.specs.Board.{bit, weight, pieces, whole}
 use Rattle.pieces.specs.Placing.{fill, first, fit, put, place, putDigit, Placeable}
 use Rattle.pieces.specs.Tidying.{copy, clear, twin}
 use Rattle.pieces.specs.Halving.{Apart, Roomy, Fitting, roomy, countFrom, Idle}
@@ -25,14 +26,6 @@ use Rattle.pieces.proofs.Removed.{clear-beyond}
 pub pow-half : (l : ℕ) → (l ≡ 0 → ⊥) → 2 ^ l ≡ 2 ^ (l - 1) + 2 ^ (l - 1)
 pow-half zero p = absurd (p refl)
 pow-half (suc h) p = rw sub-one (omega (arith, pow-suc 2 h))
-
-pub weight-hit : (B : List ℕ) (i x : ℕ) → getD B i 0 ≡ x → weight (i + 1) B x ≡ weight i B x + 1
-unfolding weight
-weight-hit B i x e = rw (add-one i, eq-eqb (getD B i 0) x e) refl
-
-pub weight-miss : (B : List ℕ) (i x : ℕ) → (getD B i 0 ≡ x → ⊥) → weight (i + 1) B x ≡ weight i B x
-unfolding weight
-weight-miss B i x e = rw (add-one i, ne-eqb (getD B i 0) x e) (omega arith)
 
 pub fill-more : (B : List ℕ) (a i x : ℕ) {M : List ℕ} → M ≡ fill B a i x → set M (a + i) x ≡ fill B a (i + 1) x
 unfolding fill
@@ -166,17 +159,23 @@ count-none B x a (suc n) e i h q =
       | no r ↦ count-none B x a n (let e′ : countFrom B x a n + 0 ≡ 0 = rw f at e in omega arith) i (omega arith) q
     ])
 
--- sixteen of sixteen make a run
-pub count-whole : (C : ℕ) (B : List ℕ) (x a : ℕ) → a + 16 ≤ C → countFrom B x a 16 ≡ 16 → whole C B x a 4 ≡ true
-count-whole C B x a h e =
-    whole-intro C B x a 4 (λ i p q. (omega arith, subst (λ (j : ℕ). getD B j 0 ≡ x) (let z : a + (i - a) ≡ i = omega arith in z) (count-all B x a 16 e (i - a) (omega arith))))
+-- all leaves of a block make a run
+pub count-whole : (C : ℕ) (B : List ℕ) (x a l : ℕ) → a + 2 ^ l ≤ C → countFrom B x a (2 ^ l) ≡ 2 ^ l → whole C B x a l ≡ true
+count-whole C B x a l h e =
+    whole-intro C B x a l (λ i p q. (omega arith, subst (λ (j : ℕ). getD B j 0 ≡ x) (let z : a + (i - a) ≡ i = omega arith in z) (count-all B x a (2 ^ l) e (i - a) (omega arith))))
 
-pub count-idle : (C : ℕ) (B : List ℕ) (a : ℕ) → a + 16 ≤ C → (r : ℕ) → r ≡ countFrom B 0 a 16 → Idle C B a 4 r
-count-idle C B a h r e =
+pub count-idle : (C : ℕ) (B : List ℕ) (a l : ℕ) → a + 2 ^ l ≤ C → (r : ℕ) → r ≡ countFrom B 0 a (2 ^ l) → Idle C B a l r
+count-idle C B a l h r e =
     record {
-      none = λ z i p q c t. count-none B 0 a 16 (sym e ∙ z) (i - a) (omega arith) (subst (λ (j : ℕ). getD B j 0 ≡ 0) (let y : i ≡ a + (i - a) = omega arith in y) t);
-      run = λ z. count-whole C B 0 a h (sym e ∙ z);
+      none = λ z i p q c t. count-none B 0 a (2 ^ l) (sym e ∙ z) (i - a) (omega arith) (subst (λ (j : ℕ). getD B j 0 ≡ 0) (let y : i ≡ a + (i - a) = omega arith in y) t);
+      run = λ z. count-whole C B 0 a l h (sym e ∙ z);
     }
 
-pub idle-unknown : (C : ℕ) (B : List ℕ) (a : ℕ) → Idle C B a 4 1
-idle-unknown C B a = record { none = λ z. absurd (omega arith); run = λ z. absurd (omega arith) }
+pub idle-unknown : (C : ℕ) (B : List ℕ) (a l : ℕ) → 0 < l → Idle C B a l 1
+idle-unknown C B a l h = record { none = λ z. absurd (omega arith); run = λ z. absurd (omega (arith, pow-half l (λ e. omega arith), pow-pos (l - 1))) }
+
+-- the leaves from 0 on counted are the weight
+pub count-weight : (B : List ℕ) (x n : ℕ) → countFrom B x 0 n ≡ weight n B x
+unfolding countFrom weight
+count-weight B x zero = refl
+count-weight B x (suc n) = rw (zero-add n, count-weight B x n) refl

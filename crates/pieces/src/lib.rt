@@ -18,56 +18,60 @@ fn size_of(l: usize) -> usize
     1usize << l
 }
 
-// How many leaves hold a name.
-pub fn weigh(board: &[u16], c: usize, name: u16) -> usize
-    requires { ⌜ c ≤ length (now board) ⌝ }
-    ensures { λ r. ⌜ r ≡ boards.weight c (now (board .entry)) name ⌝ }
+// How many of the leaves from a on hold a name. Counted in sixteen bits, the width of a leaf: the compiler then compares eight leaves or more at once.
+fn count(board: &[u16], a: usize, size: usize, x: u16) -> usize
+    requires { ⌜ (a + size ≤ length (now board)) × (a + size ≤ 4096) ⌝ }
+    ensures { λ r. ⌜ r ≡ halving.countFrom (now (board .entry)) x a size ⌝ }
 {
-    let mut n: usize = 0;
+    let mut n: u16 = 0;
     let mut i: usize = 0;
-    while i < c {
-        if board[i] == name {
-            n += 1;
-        }
-        i += 1;
-    }
-    n
-}
-
-// How many of the sixteen leaves from a on hold a name. The searches ask it at the bottom, where most blocks are of one name.
-fn count_sixteen(board: &[u16], a: usize, x: u16) -> usize
-    requires { ⌜ (a + 16 ≤ length (now board)) × (a + 16 ≤ 4096) ⌝ }
-    ensures { λ r. ⌜ r ≡ halving.countFrom (now (board .entry)) x a 16 ⌝ }
-{
-    let mut n: usize = 0;
-    let mut i: usize = 0;
-    while i < 16 {
+    while i < size {
         if board[a + i] == x {
             n += 1;
         }
         i += 1;
     }
-    n
+    n as usize
 }
 
-// Whether the sixteen leaves from a on are a run of one name; no where they do not all lie on the board.
-fn same_sixteen(board: &[u16], c: usize, a: usize) -> bool
-    requires { ⌜ halving.Block c (length (now board)) a 4 ⌝ }
-    ensures { λ r. ⌜ (r ≡ true → boards.whole c (now (board .entry)) (getD (now (board .entry)) a 0) a 4 ≡ true) ⌝ }
+// How many leaves hold a name.
+pub fn weigh(board: &[u16], c: usize, name: u16) -> usize
+    requires { ⌜ (c ≤ length (now board)) × (c ≤ 4095) ⌝ }
+    ensures { λ r. ⌜ r ≡ boards.weight c (now (board .entry)) name ⌝ }
 {
-    if a + 16 <= c {
-        return count_sixteen(board, a, board[a]) == 16;
+    count(board, 0, c, name)
+}
+
+// Whether a search counts a block before it halves it: one that lies on the board. Large blocks are seldom of one name, and each exponent counted is a pass.
+fn countable(c: usize, a: usize, l: usize) -> bool
+    requires { ⌜ (l ≤ 12) × (a + 2 ^ l ≤ 4096) ⌝ }
+    ensures { λ r. ⌜ (r ≡ true → a + 2 ^ l ≤ c) ⌝ }
+{
+    if l <= 8 {
+        return a + size_of(l) <= c;
     }
     false
 }
 
-// How many of the sixteen leaves from a on are idle; 1 where they do not all lie on the board.
-fn idle_sixteen(board: &[u16], c: usize, a: usize) -> usize
-    requires { ⌜ halving.Block c (length (now board)) a 4 ⌝ }
-    ensures { λ r. ⌜ halving.Idle c (now (board .entry)) a 4 r ⌝ }
+// Whether a count shows a block to be a run of one name.
+fn is_run(board: &[u16], c: usize, a: usize, l: usize) -> bool
+    requires { ⌜ halving.Block c (length (now board)) a l ⌝ }
+    ensures { λ r. ⌜ (r ≡ true → boards.whole c (now (board .entry)) (getD (now (board .entry)) a 0) a l ≡ true) ⌝ }
 {
-    if a + 16 <= c {
-        return count_sixteen(board, a, 0);
+    if countable(c, a, l) {
+        let size = size_of(l);
+        return count(board, a, size, board[a]) == size;
+    }
+    false
+}
+
+// How many leaves of a block are idle; 1 where they are not counted.
+fn idle_leaves(board: &[u16], c: usize, a: usize, l: usize) -> usize
+    requires { ⌜ halving.Block c (length (now board)) a l × (0 < l) ⌝ }
+    ensures { λ r. ⌜ halving.Idle c (now (board .entry)) a l r ⌝ }
+{
+    if countable(c, a, l) {
+        return count(board, a, size_of(l), 0);
     }
     1
 }
@@ -161,10 +165,8 @@ fn scan(board: &[u16], c: usize, a: usize, l: usize, sizes: &mut [u16]) -> usize
     if l == 2 {
         return scan_four(board, c, a, sizes);
     }
-    if l == 4 {
-        if same_sixteen(board, c, a) {
-            return board[a] as usize;
-        }
+    if is_run(board, c, a, l) {
+        return board[a] as usize;
     }
     let h = l - 1;
     let f = scan(board, c, a, h, sizes);
@@ -260,32 +262,10 @@ fn seek_leaf(board: &[u16], c: usize, a: usize) -> Spot
     }
 }
 
-// The search of a block of two leaves.
-fn seek_two(board: &[u16], c: usize, a: usize, n: usize) -> Spot
-    requires { ⌜ halving.Block c (length (now board)) a 1 ⌝ }
-    ensures { λ r. ⌜ halving.Spotted c (now (board .entry)) n a 1 r ⌝ }
-{
-    join(seek_leaf(board, c, a), seek_leaf(board, c, a + 1), a, 0, n)
-}
-
-// The search of a block of four leaves.
-fn seek_four(board: &[u16], c: usize, a: usize, n: usize) -> Spot
-    requires { ⌜ halving.Block c (length (now board)) a 2 ⌝ }
-    ensures { λ r. ⌜ halving.Spotted c (now (board .entry)) n a 2 r ⌝ }
-{
-    join(
-        seek_two(board, c, a, n),
-        seek_two(board, c, a + 2, n),
-        a,
-        1,
-        n,
-    )
-}
-
 // The smallest idle piece of exponent n or more in the block of exponent l at a; or the block itself, where it is idle.
 // It stops at the left half where that has a piece of just the right size, or is too small to be part of one.
 fn seek(board: &[u16], c: usize, a: usize, l: usize, n: usize) -> Spot
-    requires { ⌜ halving.Block c (length (now board)) a l × (2 ≤ l) ⌝ }
+    requires { ⌜ halving.Block c (length (now board)) a l ⌝ }
     ensures { λ r. ⌜ halving.Spotted c (now (board .entry)) n a l r ⌝ }
 {
     if c <= a {
@@ -294,23 +274,21 @@ fn seek(board: &[u16], c: usize, a: usize, l: usize, n: usize) -> Spot
             start: 0,
         };
     }
-    if l == 2 {
-        return seek_four(board, c, a, n);
+    if l == 0 {
+        return seek_leaf(board, c, a);
     }
-    if l == 4 {
-        let idle = idle_sixteen(board, c, a);
-        if idle == 0 {
-            return Spot {
-                exponent: 13,
-                start: 0,
-            };
-        }
-        if idle == 16 {
-            return Spot {
-                exponent: 4,
-                start: a,
-            };
-        }
+    let idle = idle_leaves(board, c, a, l);
+    if idle == 0 {
+        return Spot {
+            exponent: 13,
+            start: 0,
+        };
+    }
+    if idle == size_of(l) {
+        return Spot {
+            exponent: l,
+            start: a,
+        };
     }
     let h = l - 1;
     let f = seek(board, c, a, h, n);
@@ -427,45 +405,23 @@ fn list_leaf(board: &[u16], c: usize, a: usize) -> bool
     false
 }
 
-// A block of two leaves, listed.
-fn list_two(board: &[u16], c: usize, a: usize, starts: &mut [usize]) -> bool
-    requires { ⌜ halving.Block c (length (now board)) a 1 × (length (now starts) ≡ 24) ⌝ }
-    ensures { λ r. ⌜ halving.Listed c (now (board .entry)) a 1 (now (starts .entry)) (now (starts .exit)) r ⌝ }
-{
-    let g = list_leaf(board, c, a + 1);
-    let f = list_leaf(board, c, a);
-    meet_idle(f, g, a, a + 1, 0, starts)
-}
-
-// A block of four leaves, listed.
-fn list_four(board: &[u16], c: usize, a: usize, starts: &mut [usize]) -> bool
-    requires { ⌜ halving.Block c (length (now board)) a 2 × (length (now starts) ≡ 24) ⌝ }
-    ensures { λ r. ⌜ halving.Listed c (now (board .entry)) a 2 (now (starts .entry)) (now (starts .exit)) r ⌝ }
-{
-    let g = list_two(board, c, a + 2, starts);
-    let f = list_two(board, c, a, starts);
-    meet_idle(f, g, a, a + 2, 1, starts)
-}
-
 // Whether a block is idle; the idle pieces inside it are entered, from the highest start to the lowest.
 fn list_idle(board: &[u16], c: usize, a: usize, l: usize, starts: &mut [usize]) -> bool
-    requires { ⌜ halving.Block c (length (now board)) a l × (2 ≤ l) × (length (now starts) ≡ 24) ⌝ }
+    requires { ⌜ halving.Block c (length (now board)) a l × (length (now starts) ≡ 24) ⌝ }
     ensures { λ r. ⌜ halving.Listed c (now (board .entry)) a l (now (starts .entry)) (now (starts .exit)) r ⌝ }
 {
     if c <= a {
         return false;
     }
-    if l == 2 {
-        return list_four(board, c, a, starts);
+    if l == 0 {
+        return list_leaf(board, c, a);
     }
-    if l == 4 {
-        let idle = idle_sixteen(board, c, a);
-        if idle == 0 {
-            return false;
-        }
-        if idle == 16 {
-            return true;
-        }
+    let idle = idle_leaves(board, c, a, l);
+    if idle == 0 {
+        return false;
+    }
+    if idle == size_of(l) {
+        return true;
     }
     let h = l - 1;
     let m = a + size_of(h);

@@ -1,4 +1,5 @@
 -- `pieces::list_idle` meets its contract. Assumes nothing.
+use mathlib.Core.Path.{_∙_}
 use Rattle.pieces.proofs.Pairs.{listed-past, listed-none, listed-run, listed-halves}
 use Rattle.pieces.proofs.Steps.{pow-half}
 use native.Mathlib.Omega.{arith}
@@ -8,8 +9,8 @@ use borrow.Fn.PlainCycle.{Measures, is, falls, and}
 use Rattle.pieces.proofs.list_idle.Reads as list-idle
 use Rattle.pieces.proofs.list_idle.Kinds as list-idle-kinds
 use Rattle.pieces.proofs.+list_idle.Lts-list_idle as list-idle-lts
-use Rattle.pieces.proofs.idle_sixteen.Reads as idle-sixteen-reads
-use Rattle.pieces.proofs.list_four.Reads as list-four-reads
+use Rattle.pieces.proofs.idle_leaves.Reads as idle-leaves-reads
+use Rattle.pieces.proofs.list_leaf.Reads as list-leaf-reads
 use Rattle.pieces.proofs.meet_idle.Reads as meet-idle-reads
 use Rattle.pieces.proofs.size_of.Reads as size-of-reads
 use Rattle.pieces.proofs.+list_idle.{statement}
@@ -26,10 +27,10 @@ list-idle-below t =
     and 2 list-idle-kinds.ps (falls 2 list-idle-kinds.ps _<_ μ-list-idle t) list-idle.Pre
 
 list-idle-returns : (t : ℕ) → list-idle-lts.Need-returns (
-  list-four-reads.Asked,
-  list-four-reads.Learnt,
-  idle-sixteen-reads.Asked,
-  idle-sixteen-reads.Learnt,
+  list-leaf-reads.Asked,
+  list-leaf-reads.Learnt,
+  idle-leaves-reads.Asked,
+  idle-leaves-reads.Learnt,
   size-of-reads.Asked,
   size-of-reads.Learnt,
   list-idle-below t,
@@ -39,11 +40,11 @@ list-idle-returns : (t : ℕ) → list-idle-lts.Need-returns (
 ) (list-idle-at t) list-idle.Post
 list-idle-returns t c = listed-past _ _ _ _ _ (c .if1 .taken)
 
-list-idle-list-four-requires : (t : ℕ) → list-idle-lts.Need-list-four-requires (
-  list-four-reads.Asked,
-  list-four-reads.Learnt,
-  idle-sixteen-reads.Asked,
-  idle-sixteen-reads.Learnt,
+list-idle-list-leaf-requires : (t : ℕ) → list-idle-lts.Need-list-leaf-requires (
+  list-leaf-reads.Asked,
+  list-leaf-reads.Learnt,
+  idle-leaves-reads.Asked,
+  idle-leaves-reads.Learnt,
   size-of-reads.Asked,
   size-of-reads.Learnt,
   list-idle-below t,
@@ -51,27 +52,13 @@ list-idle-list-four-requires : (t : ℕ) → list-idle-lts.Need-list-four-requir
   meet-idle-reads.Asked,
   meet-idle-reads.Learnt,
 ) (list-idle-at t) list-idle.Post
-list-idle-list-four-requires t c κs = rw (← c .before .if2 .taken) (omega arith)
-
-list-idle-same-length : (t : ℕ) → list-idle-lts.Need-same-length (
-  list-four-reads.Asked,
-  list-four-reads.Learnt,
-  idle-sixteen-reads.Asked,
-  idle-sixteen-reads.Learnt,
-  size-of-reads.Asked,
-  size-of-reads.Learnt,
-  list-idle-below t,
-  list-idle.Post,
-  meet-idle-reads.Asked,
-  meet-idle-reads.Learnt,
-) (list-idle-at t) list-idle.Post
-list-idle-same-length t c = omega arith
+list-idle-list-leaf-requires t c κs = rw (← c .if2 .taken) (c .before .before .before .before .pre .1 .0)
 
 list-idle-returns-2 : (t : ℕ) → list-idle-lts.Need-returns-2 (
-  list-four-reads.Asked,
-  list-four-reads.Learnt,
-  idle-sixteen-reads.Asked,
-  idle-sixteen-reads.Learnt,
+  list-leaf-reads.Asked,
+  list-leaf-reads.Learnt,
+  idle-leaves-reads.Asked,
+  idle-leaves-reads.Learnt,
   size-of-reads.Asked,
   size-of-reads.Learnt,
   list-idle-below t,
@@ -79,13 +66,13 @@ list-idle-returns-2 : (t : ℕ) → list-idle-lts.Need-returns-2 (
   meet-idle-reads.Asked,
   meet-idle-reads.Learnt,
 ) (list-idle-at t) list-idle.Post
-list-idle-returns-2 t c = rw (c .before .before .before .before .if2 .taken) (c .before .before .list-four .ensures)
+list-idle-returns-2 t c = rw (c .before .if2 .taken) (c .list-leaf .ensures _)
 
-list-idle-idle-sixteen-requires : (t : ℕ) → list-idle-lts.Need-idle-sixteen-requires (
-  list-four-reads.Asked,
-  list-four-reads.Learnt,
-  idle-sixteen-reads.Asked,
-  idle-sixteen-reads.Learnt,
+list-idle-idle-leaves-requires : (t : ℕ) → list-idle-lts.Need-idle-leaves-requires (
+  list-leaf-reads.Asked,
+  list-leaf-reads.Learnt,
+  idle-leaves-reads.Asked,
+  idle-leaves-reads.Learnt,
   size-of-reads.Asked,
   size-of-reads.Learnt,
   list-idle-below t,
@@ -93,13 +80,13 @@ list-idle-idle-sixteen-requires : (t : ℕ) → list-idle-lts.Need-idle-sixteen-
   meet-idle-reads.Asked,
   meet-idle-reads.Learnt,
 ) (list-idle-at t) list-idle.Post
-list-idle-idle-sixteen-requires t c κs = rw (← c .if3 .taken) (omega arith)
+list-idle-idle-leaves-requires t c κs = omega arith
 
 list-idle-returns-3 : (t : ℕ) → list-idle-lts.Need-returns-3 (
-  list-four-reads.Asked,
-  list-four-reads.Learnt,
-  idle-sixteen-reads.Asked,
-  idle-sixteen-reads.Learnt,
+  list-leaf-reads.Asked,
+  list-leaf-reads.Learnt,
+  idle-leaves-reads.Asked,
+  idle-leaves-reads.Learnt,
   size-of-reads.Asked,
   size-of-reads.Learnt,
   list-idle-below t,
@@ -107,41 +94,13 @@ list-idle-returns-3 : (t : ℕ) → list-idle-lts.Need-returns-3 (
   meet-idle-reads.Asked,
   meet-idle-reads.Learnt,
 ) (list-idle-at t) list-idle.Post
-list-idle-returns-3 t c = rw (c .before .before .if3 .taken) (listed-none _ _ _ _ _ (c .before .idle-sixteen .ensures .none (c .if4 .taken)))
-
-list-idle-returns-4 : (t : ℕ) → list-idle-lts.Need-returns-4 (
-  list-four-reads.Asked,
-  list-four-reads.Learnt,
-  idle-sixteen-reads.Asked,
-  idle-sixteen-reads.Learnt,
-  size-of-reads.Asked,
-  size-of-reads.Learnt,
-  list-idle-below t,
-  list-idle.Post,
-  meet-idle-reads.Asked,
-  meet-idle-reads.Learnt,
-) (list-idle-at t) list-idle.Post
-list-idle-returns-4 t c = rw (c .before .before .before .if3 .taken) (listed-run _ _ _ _ _ (c .before .before .idle-sixteen .ensures .run (c .if5 .taken)))
-
-list-idle-sub-h : (t : ℕ) → list-idle-lts.Need-sub-h (
-  list-four-reads.Asked,
-  list-four-reads.Learnt,
-  idle-sixteen-reads.Asked,
-  idle-sixteen-reads.Learnt,
-  size-of-reads.Asked,
-  size-of-reads.Learnt,
-  list-idle-below t,
-  list-idle.Post,
-  meet-idle-reads.Asked,
-  meet-idle-reads.Learnt,
-) (list-idle-at t) list-idle.Post
-list-idle-sub-h t c = omega arith
+list-idle-returns-3 t c = listed-none _ _ _ _ _ (c .before .idle-leaves .ensures .none (c .if3 .taken))
 
 list-idle-size-of-requires : (t : ℕ) → list-idle-lts.Need-size-of-requires (
-  list-four-reads.Asked,
-  list-four-reads.Learnt,
-  idle-sixteen-reads.Asked,
-  idle-sixteen-reads.Learnt,
+  list-leaf-reads.Asked,
+  list-leaf-reads.Learnt,
+  idle-leaves-reads.Asked,
+  idle-leaves-reads.Learnt,
   size-of-reads.Asked,
   size-of-reads.Learnt,
   list-idle-below t,
@@ -151,11 +110,11 @@ list-idle-size-of-requires : (t : ℕ) → list-idle-lts.Need-size-of-requires (
 ) (list-idle-at t) list-idle.Post
 list-idle-size-of-requires t c κs = omega arith
 
-list-idle-add-m : (t : ℕ) → list-idle-lts.Need-add-m (
-  list-four-reads.Asked,
-  list-four-reads.Learnt,
-  idle-sixteen-reads.Asked,
-  idle-sixteen-reads.Learnt,
+list-idle-returns-4 : (t : ℕ) → list-idle-lts.Need-returns-4 (
+  list-leaf-reads.Asked,
+  list-leaf-reads.Learnt,
+  idle-leaves-reads.Asked,
+  idle-leaves-reads.Learnt,
   size-of-reads.Asked,
   size-of-reads.Learnt,
   list-idle-below t,
@@ -163,13 +122,55 @@ list-idle-add-m : (t : ℕ) → list-idle-lts.Need-add-m (
   meet-idle-reads.Asked,
   meet-idle-reads.Learnt,
 ) (list-idle-at t) list-idle.Post
-list-idle-add-m t c = omega (arith, pow-half (c .before .before .before .before .before .before .args .l) (λ e. omega arith))
+list-idle-returns-4 t c = listed-run _ _ _ _ _ (c .before .before .before .idle-leaves .ensures .run (c .if4 .taken ∙ c .before .size-of .ensures))
+
+list-idle-sub-h : (t : ℕ) → list-idle-lts.Need-sub-h (
+  list-leaf-reads.Asked,
+  list-leaf-reads.Learnt,
+  idle-leaves-reads.Asked,
+  idle-leaves-reads.Learnt,
+  size-of-reads.Asked,
+  size-of-reads.Learnt,
+  list-idle-below t,
+  list-idle.Post,
+  meet-idle-reads.Asked,
+  meet-idle-reads.Learnt,
+) (list-idle-at t) list-idle.Post
+list-idle-sub-h t c = omega arith
+
+list-idle-size-of-requires-2 : (t : ℕ) → list-idle-lts.Need-size-of-requires-2 (
+  list-leaf-reads.Asked,
+  list-leaf-reads.Learnt,
+  idle-leaves-reads.Asked,
+  idle-leaves-reads.Learnt,
+  size-of-reads.Asked,
+  size-of-reads.Learnt,
+  list-idle-below t,
+  list-idle.Post,
+  meet-idle-reads.Asked,
+  meet-idle-reads.Learnt,
+) (list-idle-at t) list-idle.Post
+list-idle-size-of-requires-2 t c κs = omega arith
+
+list-idle-add-m : (t : ℕ) → list-idle-lts.Need-add-m (
+  list-leaf-reads.Asked,
+  list-leaf-reads.Learnt,
+  idle-leaves-reads.Asked,
+  idle-leaves-reads.Learnt,
+  size-of-reads.Asked,
+  size-of-reads.Learnt,
+  list-idle-below t,
+  list-idle.Post,
+  meet-idle-reads.Asked,
+  meet-idle-reads.Learnt,
+) (list-idle-at t) list-idle.Post
+list-idle-add-m t c = omega (arith, pow-half (c .before .before .before .before .before .before .before .before .before .args .l) (λ e. omega arith))
 
 list-idle-list-idle-requires : (t : ℕ) → list-idle-lts.Need-list-idle-requires (
-  list-four-reads.Asked,
-  list-four-reads.Learnt,
-  idle-sixteen-reads.Asked,
-  idle-sixteen-reads.Learnt,
+  list-leaf-reads.Asked,
+  list-leaf-reads.Learnt,
+  idle-leaves-reads.Asked,
+  idle-leaves-reads.Learnt,
   size-of-reads.Asked,
   size-of-reads.Learnt,
   list-idle-below t,
@@ -177,13 +178,13 @@ list-idle-list-idle-requires : (t : ℕ) → list-idle-lts.Need-list-idle-requir
   meet-idle-reads.Asked,
   meet-idle-reads.Learnt,
 ) (list-idle-at t) list-idle.Post
-list-idle-list-idle-requires t c κs = omega (arith, pow-half (c .before .before .before .before .before .before .before .args .l) (λ e. omega arith))
+list-idle-list-idle-requires t c κs = omega (arith, pow-half (c .before .before .before .before .before .before .before .before .before .before .args .l) (λ e. omega arith))
 
 list-idle-list-idle-requires-2 : (t : ℕ) → list-idle-lts.Need-list-idle-requires-2 (
-  list-four-reads.Asked,
-  list-four-reads.Learnt,
-  idle-sixteen-reads.Asked,
-  idle-sixteen-reads.Learnt,
+  list-leaf-reads.Asked,
+  list-leaf-reads.Learnt,
+  idle-leaves-reads.Asked,
+  idle-leaves-reads.Learnt,
   size-of-reads.Asked,
   size-of-reads.Learnt,
   list-idle-below t,
@@ -191,13 +192,13 @@ list-idle-list-idle-requires-2 : (t : ℕ) → list-idle-lts.Need-list-idle-requ
   meet-idle-reads.Asked,
   meet-idle-reads.Learnt,
 ) (list-idle-at t) list-idle.Post
-list-idle-list-idle-requires-2 t c κs = omega (arith, pow-half (c .before .before .before .before .before .before .before .before .before .before .before .args .l) (λ e. omega arith))
+list-idle-list-idle-requires-2 t c κs = omega (arith, pow-half (c .before .before .before .before .before .before .before .before .before .before .before .before .before .before .args .l) (λ e. omega arith))
 
 list-idle-meet-idle-requires : (t : ℕ) → list-idle-lts.Need-meet-idle-requires (
-  list-four-reads.Asked,
-  list-four-reads.Learnt,
-  idle-sixteen-reads.Asked,
-  idle-sixteen-reads.Learnt,
+  list-leaf-reads.Asked,
+  list-leaf-reads.Learnt,
+  idle-leaves-reads.Asked,
+  idle-leaves-reads.Learnt,
   size-of-reads.Asked,
   size-of-reads.Learnt,
   list-idle-below t,
@@ -207,11 +208,11 @@ list-idle-meet-idle-requires : (t : ℕ) → list-idle-lts.Need-meet-idle-requir
 ) (list-idle-at t) list-idle.Post
 list-idle-meet-idle-requires t c κs = omega arith
 
-list-idle-same-length-2 : (t : ℕ) → list-idle-lts.Need-same-length-2 (
-  list-four-reads.Asked,
-  list-four-reads.Learnt,
-  idle-sixteen-reads.Asked,
-  idle-sixteen-reads.Learnt,
+list-idle-same-length : (t : ℕ) → list-idle-lts.Need-same-length (
+  list-leaf-reads.Asked,
+  list-leaf-reads.Learnt,
+  idle-leaves-reads.Asked,
+  idle-leaves-reads.Learnt,
   size-of-reads.Asked,
   size-of-reads.Learnt,
   list-idle-below t,
@@ -219,13 +220,13 @@ list-idle-same-length-2 : (t : ℕ) → list-idle-lts.Need-same-length-2 (
   meet-idle-reads.Asked,
   meet-idle-reads.Learnt,
 ) (list-idle-at t) list-idle.Post
-list-idle-same-length-2 t c = omega arith
+list-idle-same-length t c = omega arith
 
 list-idle-returns-5 : (t : ℕ) → list-idle-lts.Need-returns-5 (
-  list-four-reads.Asked,
-  list-four-reads.Learnt,
-  idle-sixteen-reads.Asked,
-  idle-sixteen-reads.Learnt,
+  list-leaf-reads.Asked,
+  list-leaf-reads.Learnt,
+  idle-leaves-reads.Asked,
+  idle-leaves-reads.Learnt,
   size-of-reads.Asked,
   size-of-reads.Learnt,
   list-idle-below t,
@@ -233,14 +234,14 @@ list-idle-returns-5 : (t : ℕ) → list-idle-lts.Need-returns-5 (
   meet-idle-reads.Asked,
   meet-idle-reads.Learnt,
 ) (list-idle-at t) list-idle.Post
-list-idle-returns-5 t c = listed-halves _ _ _ _ _ _ _ (omega arith) (omega arith) _ _ (rw (c .before .before .before .before .before .before .before .before .before .before .before .before .size-of .ensures) at (c .before .before .before .before .before .before .before .before .before .before .list-idle .ensures)) (c .before .before .before .before .before .before .list-idle2 .ensures) _ _ _ (omega arith) (rw (c .before .before .before .before .before .before .before .before .before .before .before .before .size-of .ensures) at (c .before .before .meet-idle .ensures))
+list-idle-returns-5 t c = listed-halves _ _ _ _ _ _ _ (omega arith) (omega arith) _ _ (rw (c .before .before .before .before .before .before .before .before .before .before .before .before .size-of2 .ensures) at (c .before .before .before .before .before .before .before .before .before .before .list-idle .ensures)) (c .before .before .before .before .before .before .list-idle2 .ensures) _ _ _ (omega arith) (rw (c .before .before .before .before .before .before .before .before .before .before .before .before .size-of2 .ensures) at (c .before .before .meet-idle .ensures))
 
 pub +list-idle-spec : {M : Type 1} → statement M
 +list-idle-spec = close μ-list-idle λ t. list-idle-lts.spec (
-  list-four-reads.Asked,
-  list-four-reads.Learnt,
-  idle-sixteen-reads.Asked,
-  idle-sixteen-reads.Learnt,
+  list-leaf-reads.Asked,
+  list-leaf-reads.Learnt,
+  idle-leaves-reads.Asked,
+  idle-leaves-reads.Learnt,
   size-of-reads.Asked,
   size-of-reads.Learnt,
   list-idle-below t,
@@ -251,17 +252,17 @@ pub +list-idle-spec : {M : Type 1} → statement M
     (list-idle-at t)
     list-idle.Post
     (list-idle-returns t)
-    (list-idle-list-four-requires t)
-    (list-idle-same-length t)
+    (list-idle-list-leaf-requires t)
     (list-idle-returns-2 t)
-    (list-idle-idle-sixteen-requires t)
+    (list-idle-idle-leaves-requires t)
     (list-idle-returns-3 t)
+    (list-idle-size-of-requires t)
     (list-idle-returns-4 t)
     (list-idle-sub-h t)
-    (list-idle-size-of-requires t)
+    (list-idle-size-of-requires-2 t)
     (list-idle-add-m t)
     (list-idle-list-idle-requires t)
     (list-idle-list-idle-requires-2 t)
     (list-idle-meet-idle-requires t)
-    (list-idle-same-length-2 t)
+    (list-idle-same-length t)
     (list-idle-returns-5 t)

@@ -8,8 +8,8 @@ use borrow.Fn.PlainCycle.{Measures, is, falls, and}
 use Rattle.pieces.proofs.scan.Reads as scan
 use Rattle.pieces.proofs.scan.Kinds as scan-kinds
 use Rattle.pieces.proofs.+scan.Lts-scan as scan-lts
+use Rattle.pieces.proofs.is_run.Reads as is-run-reads
 use Rattle.pieces.proofs.meet.Reads as meet-reads
-use Rattle.pieces.proofs.same_sixteen.Reads as same-sixteen-reads
 use Rattle.pieces.proofs.scan_four.Reads as scan-four-reads
 use Rattle.pieces.proofs.size_of.Reads as size-of-reads
 use Rattle.pieces.proofs.+scan.{statement}
@@ -27,8 +27,8 @@ scan-below t = and 2 scan-kinds.ps (falls 2 scan-kinds.ps _<_ μ-scan t) scan.Pr
 scan-returns : (t : ℕ) → scan-lts.Need-returns (
   scan-four-reads.Asked,
   scan-four-reads.Learnt,
-  same-sixteen-reads.Asked,
-  same-sixteen-reads.Learnt,
+  is-run-reads.Asked,
+  is-run-reads.Learnt,
   scan-below t,
   scan.Post,
   size-of-reads.Asked,
@@ -41,8 +41,8 @@ scan-returns t c = scanned-past _ _ _ _ _ (c .if1 .taken)
 scan-scan-four-requires : (t : ℕ) → scan-lts.Need-scan-four-requires (
   scan-four-reads.Asked,
   scan-four-reads.Learnt,
-  same-sixteen-reads.Asked,
-  same-sixteen-reads.Learnt,
+  is-run-reads.Asked,
+  is-run-reads.Learnt,
   scan-below t,
   scan.Post,
   size-of-reads.Asked,
@@ -55,8 +55,8 @@ scan-scan-four-requires t c κs = rw (← c .before .if2 .taken) (omega arith)
 scan-same-length : (t : ℕ) → scan-lts.Need-same-length (
   scan-four-reads.Asked,
   scan-four-reads.Learnt,
-  same-sixteen-reads.Asked,
-  same-sixteen-reads.Learnt,
+  is-run-reads.Asked,
+  is-run-reads.Learnt,
   scan-below t,
   scan.Post,
   size-of-reads.Asked,
@@ -69,8 +69,8 @@ scan-same-length t c = omega arith
 scan-returns-2 : (t : ℕ) → scan-lts.Need-returns-2 (
   scan-four-reads.Asked,
   scan-four-reads.Learnt,
-  same-sixteen-reads.Asked,
-  same-sixteen-reads.Learnt,
+  is-run-reads.Asked,
+  is-run-reads.Learnt,
   scan-below t,
   scan.Post,
   size-of-reads.Asked,
@@ -80,11 +80,11 @@ scan-returns-2 : (t : ℕ) → scan-lts.Need-returns-2 (
 ) (scan-at t) scan.Post
 scan-returns-2 t c = rw (c .before .before .before .before .if2 .taken) (c .before .before .scan-four .ensures)
 
-scan-same-sixteen-requires : (t : ℕ) → scan-lts.Need-same-sixteen-requires (
+scan-is-run-requires : (t : ℕ) → scan-lts.Need-is-run-requires (
   scan-four-reads.Asked,
   scan-four-reads.Learnt,
-  same-sixteen-reads.Asked,
-  same-sixteen-reads.Learnt,
+  is-run-reads.Asked,
+  is-run-reads.Learnt,
   scan-below t,
   scan.Post,
   size-of-reads.Asked,
@@ -92,13 +92,13 @@ scan-same-sixteen-requires : (t : ℕ) → scan-lts.Need-same-sixteen-requires (
   meet-reads.Asked,
   meet-reads.Learnt,
 ) (scan-at t) scan.Post
-scan-same-sixteen-requires t c κs = rw (← c .if3 .taken) (omega arith)
+scan-is-run-requires t c κs = omega arith
 
 scan-mul-result : (t : ℕ) → scan-lts.Need-mul-result (
   scan-four-reads.Asked,
   scan-four-reads.Learnt,
-  same-sixteen-reads.Asked,
-  same-sixteen-reads.Learnt,
+  is-run-reads.Asked,
+  is-run-reads.Learnt,
   scan-below t,
   scan.Post,
   size-of-reads.Asked,
@@ -111,8 +111,8 @@ scan-mul-result t c = omega arith
 scan-shared-slice-read-result : (t : ℕ) → scan-lts.Need-shared-slice-read-result (
   scan-four-reads.Asked,
   scan-four-reads.Learnt,
-  same-sixteen-reads.Asked,
-  same-sixteen-reads.Learnt,
+  is-run-reads.Asked,
+  is-run-reads.Learnt,
   scan-below t,
   scan.Post,
   size-of-reads.Asked,
@@ -125,8 +125,8 @@ scan-shared-slice-read-result t c = omega arith
 scan-cast-result : (t : ℕ) → scan-lts.Need-cast-result (
   scan-four-reads.Asked,
   scan-four-reads.Learnt,
-  same-sixteen-reads.Asked,
-  same-sixteen-reads.Learnt,
+  is-run-reads.Asked,
+  is-run-reads.Learnt,
   scan-below t,
   scan.Post,
   size-of-reads.Asked,
@@ -134,13 +134,13 @@ scan-cast-result : (t : ℕ) → scan-lts.Need-cast-result (
   meet-reads.Asked,
   meet-reads.Learnt,
 ) (scan-at t) scan.Post
-scan-cast-result t c = omega (arith, c .shared-slice-known2 .given (c .before .before .before .before .before .before .before .before .args .a))
+scan-cast-result t c = omega (arith, c .shared-slice-known2 .given (c .before .before .before .before .before .before .before .args .a))
 
 scan-returns-3 : (t : ℕ) → scan-lts.Need-returns-3 (
   scan-four-reads.Asked,
   scan-four-reads.Learnt,
-  same-sixteen-reads.Asked,
-  same-sixteen-reads.Learnt,
+  is-run-reads.Asked,
+  is-run-reads.Learnt,
   scan-below t,
   scan.Post,
   size-of-reads.Asked,
@@ -148,13 +148,13 @@ scan-returns-3 : (t : ℕ) → scan-lts.Need-returns-3 (
   meet-reads.Asked,
   meet-reads.Learnt,
 ) (scan-at t) scan.Post
-scan-returns-3 t c = rw (c .before .before .before .if3 .taken) (scanned-run _ (c .before .before .before .before .before .before .before .before .args .board .now) (λ i. omega (arith, c .before .before .before .before .before .before .before .shared-slice-known .given i)) _ _ _ (c .before .before .same-sixteen .ensures (c .before .if4 .taken)))
+scan-returns-3 t c = scanned-run _ (c .before .before .before .before .before .before .before .args .board .now) (λ i. omega (arith, c .before .before .before .before .before .before .shared-slice-known .given i)) _ _ _ (c .before .before .is-run .ensures (c .before .if3 .taken))
 
 scan-sub-h : (t : ℕ) → scan-lts.Need-sub-h (
   scan-four-reads.Asked,
   scan-four-reads.Learnt,
-  same-sixteen-reads.Asked,
-  same-sixteen-reads.Learnt,
+  is-run-reads.Asked,
+  is-run-reads.Learnt,
   scan-below t,
   scan.Post,
   size-of-reads.Asked,
@@ -167,8 +167,8 @@ scan-sub-h t c = omega arith
 scan-scan-requires : (t : ℕ) → scan-lts.Need-scan-requires (
   scan-four-reads.Asked,
   scan-four-reads.Learnt,
-  same-sixteen-reads.Asked,
-  same-sixteen-reads.Learnt,
+  is-run-reads.Asked,
+  is-run-reads.Learnt,
   scan-below t,
   scan.Post,
   size-of-reads.Asked,
@@ -176,13 +176,13 @@ scan-scan-requires : (t : ℕ) → scan-lts.Need-scan-requires (
   meet-reads.Asked,
   meet-reads.Learnt,
 ) (scan-at t) scan.Post
-scan-scan-requires t c κs = omega (arith, pow-half (c .before .before .before .before .before .before .args .l) (λ e. omega arith))
+scan-scan-requires t c κs = omega (arith, pow-half (c .before .before .before .before .before .before .before .args .l) (λ e. omega arith))
 
 scan-same-length-2 : (t : ℕ) → scan-lts.Need-same-length-2 (
   scan-four-reads.Asked,
   scan-four-reads.Learnt,
-  same-sixteen-reads.Asked,
-  same-sixteen-reads.Learnt,
+  is-run-reads.Asked,
+  is-run-reads.Learnt,
   scan-below t,
   scan.Post,
   size-of-reads.Asked,
@@ -195,8 +195,8 @@ scan-same-length-2 t c = omega arith
 scan-returns-4 : (t : ℕ) → scan-lts.Need-returns-4 (
   scan-four-reads.Asked,
   scan-four-reads.Learnt,
-  same-sixteen-reads.Asked,
-  same-sixteen-reads.Learnt,
+  is-run-reads.Asked,
+  is-run-reads.Learnt,
   scan-below t,
   scan.Post,
   size-of-reads.Asked,
@@ -204,13 +204,13 @@ scan-returns-4 : (t : ℕ) → scan-lts.Need-returns-4 (
   meet-reads.Asked,
   meet-reads.Learnt,
 ) (scan-at t) scan.Post
-scan-returns-4 t c = scanned-low _ (c .before .before .before .before .before .before .before .before .before .before .args .board .now) (λ i. omega (arith, c .before .before .before .before .before .before .before .before .before .shared-slice-known .given i)) _ _ _ _ _ (omega arith) (rw (c .if5 .taken) at (c .before .before .before .scan .ensures))
+scan-returns-4 t c = scanned-low _ (c .before .before .before .before .before .before .before .before .before .before .before .args .board .now) (λ i. omega (arith, c .before .before .before .before .before .before .before .before .before .before .shared-slice-known .given i)) _ _ _ _ _ (omega arith) (rw (c .if4 .taken) at (c .before .before .before .scan .ensures))
 
 scan-size-of-requires : (t : ℕ) → scan-lts.Need-size-of-requires (
   scan-four-reads.Asked,
   scan-four-reads.Learnt,
-  same-sixteen-reads.Asked,
-  same-sixteen-reads.Learnt,
+  is-run-reads.Asked,
+  is-run-reads.Learnt,
   scan-below t,
   scan.Post,
   size-of-reads.Asked,
@@ -223,8 +223,8 @@ scan-size-of-requires t c κs = omega arith
 scan-add-scan : (t : ℕ) → scan-lts.Need-add-scan (
   scan-four-reads.Asked,
   scan-four-reads.Learnt,
-  same-sixteen-reads.Asked,
-  same-sixteen-reads.Learnt,
+  is-run-reads.Asked,
+  is-run-reads.Learnt,
   scan-below t,
   scan.Post,
   size-of-reads.Asked,
@@ -232,13 +232,13 @@ scan-add-scan : (t : ℕ) → scan-lts.Need-add-scan (
   meet-reads.Asked,
   meet-reads.Learnt,
 ) (scan-at t) scan.Post
-scan-add-scan t c = omega (arith, pow-half (c .before .before .before .before .before .before .before .before .before .before .before .args .l) (λ e. omega arith))
+scan-add-scan t c = omega (arith, pow-half (c .before .before .before .before .before .before .before .before .before .before .before .before .args .l) (λ e. omega arith))
 
 scan-scan-requires-2 : (t : ℕ) → scan-lts.Need-scan-requires-2 (
   scan-four-reads.Asked,
   scan-four-reads.Learnt,
-  same-sixteen-reads.Asked,
-  same-sixteen-reads.Learnt,
+  is-run-reads.Asked,
+  is-run-reads.Learnt,
   scan-below t,
   scan.Post,
   size-of-reads.Asked,
@@ -246,13 +246,13 @@ scan-scan-requires-2 : (t : ℕ) → scan-lts.Need-scan-requires-2 (
   meet-reads.Asked,
   meet-reads.Learnt,
 ) (scan-at t) scan.Post
-scan-scan-requires-2 t c κs = omega (arith, pow-half (c .before .before .before .before .before .before .before .before .before .before .before .before .args .l) (λ e. omega arith))
+scan-scan-requires-2 t c κs = omega (arith, pow-half (c .before .before .before .before .before .before .before .before .before .before .before .before .before .args .l) (λ e. omega arith))
 
 scan-same-length-3 : (t : ℕ) → scan-lts.Need-same-length-3 (
   scan-four-reads.Asked,
   scan-four-reads.Learnt,
-  same-sixteen-reads.Asked,
-  same-sixteen-reads.Learnt,
+  is-run-reads.Asked,
+  is-run-reads.Learnt,
   scan-below t,
   scan.Post,
   size-of-reads.Asked,
@@ -265,8 +265,8 @@ scan-same-length-3 t c = omega arith
 scan-returns-5 : (t : ℕ) → scan-lts.Need-returns-5 (
   scan-four-reads.Asked,
   scan-four-reads.Learnt,
-  same-sixteen-reads.Asked,
-  same-sixteen-reads.Learnt,
+  is-run-reads.Asked,
+  is-run-reads.Learnt,
   scan-below t,
   scan.Post,
   size-of-reads.Asked,
@@ -274,13 +274,13 @@ scan-returns-5 : (t : ℕ) → scan-lts.Need-returns-5 (
   meet-reads.Asked,
   meet-reads.Learnt,
 ) (scan-at t) scan.Post
-scan-returns-5 t c = scanned-high _ (c .before .before .before .before .before .before .before .before .before .before .before .before .before .before .before .before .args .board .now) (λ i. omega (arith, c .before .before .before .before .before .before .before .before .before .before .before .before .before .before .before .shared-slice-known .given i)) _ _ _ _ _ _ _ (omega arith) (c .before .before .before .before .before .before .before .before .before .scan .ensures) (c .before .before .before .before .before .before .if5 .left) (rw (c .if6 .taken, c .before .before .before .before .before .size-of .ensures) at (c .before .before .before .scan2 .ensures))
+scan-returns-5 t c = scanned-high _ (c .before .before .before .before .before .before .before .before .before .before .before .before .before .before .before .before .before .args .board .now) (λ i. omega (arith, c .before .before .before .before .before .before .before .before .before .before .before .before .before .before .before .before .shared-slice-known .given i)) _ _ _ _ _ _ _ (omega arith) (c .before .before .before .before .before .before .before .before .before .scan .ensures) (c .before .before .before .before .before .before .if4 .left) (rw (c .if5 .taken, c .before .before .before .before .before .size-of .ensures) at (c .before .before .before .scan2 .ensures))
 
 scan-meet-requires : (t : ℕ) → scan-lts.Need-meet-requires (
   scan-four-reads.Asked,
   scan-four-reads.Learnt,
-  same-sixteen-reads.Asked,
-  same-sixteen-reads.Learnt,
+  is-run-reads.Asked,
+  is-run-reads.Learnt,
   scan-below t,
   scan.Post,
   size-of-reads.Asked,
@@ -288,13 +288,13 @@ scan-meet-requires : (t : ℕ) → scan-lts.Need-meet-requires (
   meet-reads.Asked,
   meet-reads.Learnt,
 ) (scan-at t) scan.Post
-scan-meet-requires t c κs = omega (arith, scanned-le _ (c .before .before .before .before .before .before .before .before .before .before .before .before .before .before .before .before .before .args .board .now) (λ i. omega (arith, c .before .before .before .before .before .before .before .before .before .before .before .before .before .before .before .before .shared-slice-known .given i)) _ _ _ _ _ (c .before .before .before .before .before .before .before .before .before .before .scan .ensures) (c .before .before .before .before .before .before .before .if5 .left), scanned-le _ (c .before .before .before .before .before .before .before .before .before .before .before .before .before .before .before .before .before .args .board .now) (λ i. omega (arith, c .before .before .before .before .before .before .before .before .before .before .before .before .before .before .before .before .shared-slice-known .given i)) _ _ _ _ _ (c .before .before .before .before .scan2 .ensures) (c .before .if6 .left))
+scan-meet-requires t c κs = omega (arith, scanned-le _ (c .before .before .before .before .before .before .before .before .before .before .before .before .before .before .before .before .before .before .args .board .now) (λ i. omega (arith, c .before .before .before .before .before .before .before .before .before .before .before .before .before .before .before .before .before .shared-slice-known .given i)) _ _ _ _ _ (c .before .before .before .before .before .before .before .before .before .before .scan .ensures) (c .before .before .before .before .before .before .before .if4 .left), scanned-le _ (c .before .before .before .before .before .before .before .before .before .before .before .before .before .before .before .before .before .before .args .board .now) (λ i. omega (arith, c .before .before .before .before .before .before .before .before .before .before .before .before .before .before .before .before .before .shared-slice-known .given i)) _ _ _ _ _ (c .before .before .before .before .scan2 .ensures) (c .before .if5 .left))
 
 scan-same-length-4 : (t : ℕ) → scan-lts.Need-same-length-4 (
   scan-four-reads.Asked,
   scan-four-reads.Learnt,
-  same-sixteen-reads.Asked,
-  same-sixteen-reads.Learnt,
+  is-run-reads.Asked,
+  is-run-reads.Learnt,
   scan-below t,
   scan.Post,
   size-of-reads.Asked,
@@ -307,8 +307,8 @@ scan-same-length-4 t c = omega arith
 scan-returns-6 : (t : ℕ) → scan-lts.Need-returns-6 (
   scan-four-reads.Asked,
   scan-four-reads.Learnt,
-  same-sixteen-reads.Asked,
-  same-sixteen-reads.Learnt,
+  is-run-reads.Asked,
+  is-run-reads.Learnt,
   scan-below t,
   scan.Post,
   size-of-reads.Asked,
@@ -316,14 +316,14 @@ scan-returns-6 : (t : ℕ) → scan-lts.Need-returns-6 (
   meet-reads.Asked,
   meet-reads.Learnt,
 ) (scan-at t) scan.Post
-scan-returns-6 t c = scanned-met _ (c .before .before .before .before .before .before .before .before .before .before .before .before .before .before .before .before .before .before .before .before .args .board .now) (λ i. omega (arith, c .before .before .before .before .before .before .before .before .before .before .before .before .before .before .before .before .before .before .before .shared-slice-known .given i)) _ _ _ _ _ _ _ _ _ _ (omega arith) (omega arith) (c .before .before .before .before .before .before .before .before .before .before .before .before .before .scan .ensures) (c .before .before .before .before .before .before .before .before .before .before .if5 .left) (rw (c .before .before .before .before .before .before .before .before .before .size-of .ensures) at (c .before .before .before .before .before .before .before .scan2 .ensures)) (c .before .before .before .before .if6 .left) (c .before .before .meet .ensures)
+scan-returns-6 t c = scanned-met _ (c .before .before .before .before .before .before .before .before .before .before .before .before .before .before .before .before .before .before .before .before .before .args .board .now) (λ i. omega (arith, c .before .before .before .before .before .before .before .before .before .before .before .before .before .before .before .before .before .before .before .before .shared-slice-known .given i)) _ _ _ _ _ _ _ _ _ _ (omega arith) (omega arith) (c .before .before .before .before .before .before .before .before .before .before .before .before .before .scan .ensures) (c .before .before .before .before .before .before .before .before .before .before .if4 .left) (rw (c .before .before .before .before .before .before .before .before .before .size-of .ensures) at (c .before .before .before .before .before .before .before .scan2 .ensures)) (c .before .before .before .before .if5 .left) (c .before .before .meet .ensures)
 
 pub +scan-spec : {M : Type 1} → statement M
 +scan-spec = close μ-scan λ t. scan-lts.spec (
   scan-four-reads.Asked,
   scan-four-reads.Learnt,
-  same-sixteen-reads.Asked,
-  same-sixteen-reads.Learnt,
+  is-run-reads.Asked,
+  is-run-reads.Learnt,
   scan-below t,
   scan.Post,
   size-of-reads.Asked,
@@ -337,7 +337,7 @@ pub +scan-spec : {M : Type 1} → statement M
     (scan-scan-four-requires t)
     (scan-same-length t)
     (scan-returns-2 t)
-    (scan-same-sixteen-requires t)
+    (scan-is-run-requires t)
     (scan-mul-result t)
     (scan-shared-slice-read-result t)
     (scan-cast-result t)

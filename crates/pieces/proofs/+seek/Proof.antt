@@ -2,16 +2,16 @@
 use Rattle.pieces.proofs.Spots.{spotted-past, spotted-none, spotted-run, spotted-exact, spotted-small, spotted-join}
 use Rattle.pieces.proofs.Steps.{pow-half}
 use native.Mathlib.Omega.{arith}
-use mathlib.Core.Path.{refl}
+use mathlib.Core.Path.{refl, _∙_}
 use Prim.Native.Nat.{ℕ, _<_}
 use borrow.Fn.Kinds.{In}
 use borrow.Fn.PlainCycle.{Measures, is, falls, and}
 use Rattle.pieces.proofs.seek.Reads as seek
 use Rattle.pieces.proofs.seek.Kinds as seek-kinds
 use Rattle.pieces.proofs.+seek.Lts-seek as seek-lts
-use Rattle.pieces.proofs.idle_sixteen.Reads as idle-sixteen-reads
+use Rattle.pieces.proofs.idle_leaves.Reads as idle-leaves-reads
 use Rattle.pieces.proofs.join.Reads as join-reads
-use Rattle.pieces.proofs.seek_four.Reads as seek-four-reads
+use Rattle.pieces.proofs.seek_leaf.Reads as seek-leaf-reads
 use Rattle.pieces.proofs.size_of.Reads as size-of-reads
 use Rattle.pieces.proofs.+seek.{statement}
 use Rattle.pieces.proofs.+seek.Tie.{close}
@@ -26,241 +26,256 @@ abbrev seek-below : ℕ → In 1 seek-kinds.ps
 seek-below t = and 1 seek-kinds.ps (falls 1 seek-kinds.ps _<_ μ-seek t) seek.Pre
 
 seek-returns : (t : ℕ) → seek-lts.Need-returns (
-  seek-four-reads.Asked,
-  seek-four-reads.Learnt,
-  idle-sixteen-reads.Asked,
-  idle-sixteen-reads.Learnt,
-  seek-below t,
-  seek.Post,
+  seek-leaf-reads.Asked,
+  seek-leaf-reads.Learnt,
+  idle-leaves-reads.Asked,
+  idle-leaves-reads.Learnt,
   size-of-reads.Asked,
   size-of-reads.Learnt,
+  seek-below t,
+  seek.Post,
   join-reads.Asked,
   join-reads.Learnt,
 ) (seek-at t) seek.Post
 seek-returns t c = spotted-past _ _ _ _ _ (c .if1 .taken)
 
-seek-seek-four-requires : (t : ℕ) → seek-lts.Need-seek-four-requires (
-  seek-four-reads.Asked,
-  seek-four-reads.Learnt,
-  idle-sixteen-reads.Asked,
-  idle-sixteen-reads.Learnt,
-  seek-below t,
-  seek.Post,
+seek-seek-leaf-requires : (t : ℕ) → seek-lts.Need-seek-leaf-requires (
+  seek-leaf-reads.Asked,
+  seek-leaf-reads.Learnt,
+  idle-leaves-reads.Asked,
+  idle-leaves-reads.Learnt,
   size-of-reads.Asked,
   size-of-reads.Learnt,
+  seek-below t,
+  seek.Post,
   join-reads.Asked,
   join-reads.Learnt,
 ) (seek-at t) seek.Post
-seek-seek-four-requires t c κs = rw (← c .if2 .taken) (omega arith)
+seek-seek-leaf-requires t c κs = rw (← c .if2 .taken) (omega arith)
 
 seek-returns-2 : (t : ℕ) → seek-lts.Need-returns-2 (
-  seek-four-reads.Asked,
-  seek-four-reads.Learnt,
-  idle-sixteen-reads.Asked,
-  idle-sixteen-reads.Learnt,
-  seek-below t,
-  seek.Post,
+  seek-leaf-reads.Asked,
+  seek-leaf-reads.Learnt,
+  idle-leaves-reads.Asked,
+  idle-leaves-reads.Learnt,
   size-of-reads.Asked,
   size-of-reads.Learnt,
+  seek-below t,
+  seek.Post,
   join-reads.Asked,
   join-reads.Learnt,
 ) (seek-at t) seek.Post
-seek-returns-2 t c = rw (c .before .if2 .taken) (c .seek-four .ensures)
+seek-returns-2 t c = rw (c .before .if2 .taken) (c .seek-leaf .ensures _)
 
-seek-idle-sixteen-requires : (t : ℕ) → seek-lts.Need-idle-sixteen-requires (
-  seek-four-reads.Asked,
-  seek-four-reads.Learnt,
-  idle-sixteen-reads.Asked,
-  idle-sixteen-reads.Learnt,
-  seek-below t,
-  seek.Post,
+seek-idle-leaves-requires : (t : ℕ) → seek-lts.Need-idle-leaves-requires (
+  seek-leaf-reads.Asked,
+  seek-leaf-reads.Learnt,
+  idle-leaves-reads.Asked,
+  idle-leaves-reads.Learnt,
   size-of-reads.Asked,
   size-of-reads.Learnt,
+  seek-below t,
+  seek.Post,
   join-reads.Asked,
   join-reads.Learnt,
 ) (seek-at t) seek.Post
-seek-idle-sixteen-requires t c κs = rw (← c .if3 .taken) (omega arith)
+seek-idle-leaves-requires t c κs = omega arith
 
 seek-returns-3 : (t : ℕ) → seek-lts.Need-returns-3 (
-  seek-four-reads.Asked,
-  seek-four-reads.Learnt,
-  idle-sixteen-reads.Asked,
-  idle-sixteen-reads.Learnt,
-  seek-below t,
-  seek.Post,
+  seek-leaf-reads.Asked,
+  seek-leaf-reads.Learnt,
+  idle-leaves-reads.Asked,
+  idle-leaves-reads.Learnt,
   size-of-reads.Asked,
   size-of-reads.Learnt,
+  seek-below t,
+  seek.Post,
   join-reads.Asked,
   join-reads.Learnt,
 ) (seek-at t) seek.Post
-seek-returns-3 t c = rw (c .before .before .if3 .taken) (spotted-none _ _ _ _ _ (c .before .idle-sixteen .ensures .none (c .if4 .taken)))
+seek-returns-3 t c = spotted-none _ _ _ _ _ (c .before .idle-leaves .ensures .none (c .if3 .taken))
+
+seek-size-of-requires : (t : ℕ) → seek-lts.Need-size-of-requires (
+  seek-leaf-reads.Asked,
+  seek-leaf-reads.Learnt,
+  idle-leaves-reads.Asked,
+  idle-leaves-reads.Learnt,
+  size-of-reads.Asked,
+  size-of-reads.Learnt,
+  seek-below t,
+  seek.Post,
+  join-reads.Asked,
+  join-reads.Learnt,
+) (seek-at t) seek.Post
+seek-size-of-requires t c κs = omega arith
 
 seek-returns-4 : (t : ℕ) → seek-lts.Need-returns-4 (
-  seek-four-reads.Asked,
-  seek-four-reads.Learnt,
-  idle-sixteen-reads.Asked,
-  idle-sixteen-reads.Learnt,
-  seek-below t,
-  seek.Post,
+  seek-leaf-reads.Asked,
+  seek-leaf-reads.Learnt,
+  idle-leaves-reads.Asked,
+  idle-leaves-reads.Learnt,
   size-of-reads.Asked,
   size-of-reads.Learnt,
+  seek-below t,
+  seek.Post,
   join-reads.Asked,
   join-reads.Learnt,
 ) (seek-at t) seek.Post
-seek-returns-4 t c = rw (c .before .before .before .if3 .taken) (spotted-run _ _ _ _ 4 4 refl (c .before .before .idle-sixteen .ensures .run (c .if5 .taken)))
+seek-returns-4 t c = spotted-run _ _ _ _ _ _ refl (c .before .before .before .idle-leaves .ensures .run (c .if4 .taken ∙ c .before .size-of .ensures))
 
 seek-sub-h : (t : ℕ) → seek-lts.Need-sub-h (
-  seek-four-reads.Asked,
-  seek-four-reads.Learnt,
-  idle-sixteen-reads.Asked,
-  idle-sixteen-reads.Learnt,
-  seek-below t,
-  seek.Post,
+  seek-leaf-reads.Asked,
+  seek-leaf-reads.Learnt,
+  idle-leaves-reads.Asked,
+  idle-leaves-reads.Learnt,
   size-of-reads.Asked,
   size-of-reads.Learnt,
+  seek-below t,
+  seek.Post,
   join-reads.Asked,
   join-reads.Learnt,
 ) (seek-at t) seek.Post
 seek-sub-h t c = omega arith
 
 seek-seek-requires : (t : ℕ) → seek-lts.Need-seek-requires (
-  seek-four-reads.Asked,
-  seek-four-reads.Learnt,
-  idle-sixteen-reads.Asked,
-  idle-sixteen-reads.Learnt,
-  seek-below t,
-  seek.Post,
+  seek-leaf-reads.Asked,
+  seek-leaf-reads.Learnt,
+  idle-leaves-reads.Asked,
+  idle-leaves-reads.Learnt,
   size-of-reads.Asked,
   size-of-reads.Learnt,
+  seek-below t,
+  seek.Post,
   join-reads.Asked,
   join-reads.Learnt,
 ) (seek-at t) seek.Post
-seek-seek-requires t c κs = omega (arith, pow-half (c .before .before .before .before .args .l) (λ e. omega arith))
+seek-seek-requires t c κs = omega (arith, pow-half (c .before .before .before .before .before .before .before .args .l) (λ e. omega arith))
 
 seek-returns-5 : (t : ℕ) → seek-lts.Need-returns-5 (
-  seek-four-reads.Asked,
-  seek-four-reads.Learnt,
-  idle-sixteen-reads.Asked,
-  idle-sixteen-reads.Learnt,
-  seek-below t,
-  seek.Post,
+  seek-leaf-reads.Asked,
+  seek-leaf-reads.Learnt,
+  idle-leaves-reads.Asked,
+  idle-leaves-reads.Learnt,
   size-of-reads.Asked,
   size-of-reads.Learnt,
+  seek-below t,
+  seek.Post,
   join-reads.Asked,
   join-reads.Learnt,
 ) (seek-at t) seek.Post
-seek-returns-5 t c = spotted-exact _ _ _ _ _ _ _ (omega arith) (c .before .before .before .before .seek .ensures) (c .before .before .if6 .taken) (c .if7 .taken)
+seek-returns-5 t c = spotted-exact _ _ _ _ _ _ _ (omega arith) (c .before .before .before .before .seek .ensures) (c .before .before .if5 .taken) (c .if6 .taken)
 
 seek-returns-6 : (t : ℕ) → seek-lts.Need-returns-6 (
-  seek-four-reads.Asked,
-  seek-four-reads.Learnt,
-  idle-sixteen-reads.Asked,
-  idle-sixteen-reads.Learnt,
-  seek-below t,
-  seek.Post,
+  seek-leaf-reads.Asked,
+  seek-leaf-reads.Learnt,
+  idle-leaves-reads.Asked,
+  idle-leaves-reads.Learnt,
   size-of-reads.Asked,
   size-of-reads.Learnt,
+  seek-below t,
+  seek.Post,
   join-reads.Asked,
   join-reads.Learnt,
 ) (seek-at t) seek.Post
-seek-returns-6 t c = spotted-small _ _ _ _ _ _ _ (omega arith) (c .before .before .before .before .before .seek .ensures) (c .before .before .before .if6 .taken) (c .if8 .taken)
+seek-returns-6 t c = spotted-small _ _ _ _ _ _ _ (omega arith) (c .before .before .before .before .before .seek .ensures) (c .before .before .before .if5 .taken) (c .if7 .taken)
 
-seek-size-of-requires : (t : ℕ) → seek-lts.Need-size-of-requires (
-  seek-four-reads.Asked,
-  seek-four-reads.Learnt,
-  idle-sixteen-reads.Asked,
-  idle-sixteen-reads.Learnt,
-  seek-below t,
-  seek.Post,
+seek-size-of-requires-2 : (t : ℕ) → seek-lts.Need-size-of-requires-2 (
+  seek-leaf-reads.Asked,
+  seek-leaf-reads.Learnt,
+  idle-leaves-reads.Asked,
+  idle-leaves-reads.Learnt,
   size-of-reads.Asked,
   size-of-reads.Learnt,
+  seek-below t,
+  seek.Post,
   join-reads.Asked,
   join-reads.Learnt,
 ) (seek-at t) seek.Post
-seek-size-of-requires t c κs = omega arith
+seek-size-of-requires-2 t c κs = omega arith
 
 seek-add-seek : (t : ℕ) → seek-lts.Need-add-seek (
-  seek-four-reads.Asked,
-  seek-four-reads.Learnt,
-  idle-sixteen-reads.Asked,
-  idle-sixteen-reads.Learnt,
-  seek-below t,
-  seek.Post,
+  seek-leaf-reads.Asked,
+  seek-leaf-reads.Learnt,
+  idle-leaves-reads.Asked,
+  idle-leaves-reads.Learnt,
   size-of-reads.Asked,
   size-of-reads.Learnt,
+  seek-below t,
+  seek.Post,
   join-reads.Asked,
   join-reads.Learnt,
 ) (seek-at t) seek.Post
-seek-add-seek t c = omega (arith, pow-half (c .before .before .before .before .before .before .before .before .args .l) (λ e. omega arith))
+seek-add-seek t c = omega (arith, pow-half (c .before .before .before .before .before .before .before .before .before .before .before .args .l) (λ e. omega arith))
 
 seek-seek-requires-2 : (t : ℕ) → seek-lts.Need-seek-requires-2 (
-  seek-four-reads.Asked,
-  seek-four-reads.Learnt,
-  idle-sixteen-reads.Asked,
-  idle-sixteen-reads.Learnt,
-  seek-below t,
-  seek.Post,
+  seek-leaf-reads.Asked,
+  seek-leaf-reads.Learnt,
+  idle-leaves-reads.Asked,
+  idle-leaves-reads.Learnt,
   size-of-reads.Asked,
   size-of-reads.Learnt,
+  seek-below t,
+  seek.Post,
   join-reads.Asked,
   join-reads.Learnt,
 ) (seek-at t) seek.Post
-seek-seek-requires-2 t c κs = omega (arith, pow-half (c .before .before .before .before .before .before .before .before .args .l) (λ e. omega arith))
+seek-seek-requires-2 t c κs = omega (arith, pow-half (c .before .before .before .before .before .before .before .before .before .before .before .args .l) (λ e. omega arith))
 
 seek-join-requires : (t : ℕ) → seek-lts.Need-join-requires (
-  seek-four-reads.Asked,
-  seek-four-reads.Learnt,
-  idle-sixteen-reads.Asked,
-  idle-sixteen-reads.Learnt,
-  seek-below t,
-  seek.Post,
+  seek-leaf-reads.Asked,
+  seek-leaf-reads.Learnt,
+  idle-leaves-reads.Asked,
+  idle-leaves-reads.Learnt,
   size-of-reads.Asked,
   size-of-reads.Learnt,
+  seek-below t,
+  seek.Post,
   join-reads.Asked,
   join-reads.Learnt,
 ) (seek-at t) seek.Post
 seek-join-requires t c κs = omega arith
 
 seek-returns-7 : (t : ℕ) → seek-lts.Need-returns-7 (
-  seek-four-reads.Asked,
-  seek-four-reads.Learnt,
-  idle-sixteen-reads.Asked,
-  idle-sixteen-reads.Learnt,
-  seek-below t,
-  seek.Post,
+  seek-leaf-reads.Asked,
+  seek-leaf-reads.Learnt,
+  idle-leaves-reads.Asked,
+  idle-leaves-reads.Learnt,
   size-of-reads.Asked,
   size-of-reads.Learnt,
+  seek-below t,
+  seek.Post,
   join-reads.Asked,
   join-reads.Learnt,
 ) (seek-at t) seek.Post
-seek-returns-7 t c = rw (c .join .ensures) (spotted-join _ _ _ _ _ _ _ _ (omega arith) (omega arith) (c .before .before .before .before .before .seek .ensures) (rw (c .before .before .size-of .ensures) at (c .before .seek2 .ensures)))
+seek-returns-7 t c = rw (c .join .ensures) (spotted-join _ _ _ _ _ _ _ _ (omega arith) (omega arith) (c .before .before .before .before .before .seek .ensures) (rw (c .before .before .size-of2 .ensures) at (c .before .seek2 .ensures)))
 
 pub +seek-spec : {M : Type 1} → statement M
 +seek-spec = close μ-seek λ t. seek-lts.spec (
-  seek-four-reads.Asked,
-  seek-four-reads.Learnt,
-  idle-sixteen-reads.Asked,
-  idle-sixteen-reads.Learnt,
-  seek-below t,
-  seek.Post,
+  seek-leaf-reads.Asked,
+  seek-leaf-reads.Learnt,
+  idle-leaves-reads.Asked,
+  idle-leaves-reads.Learnt,
   size-of-reads.Asked,
   size-of-reads.Learnt,
+  seek-below t,
+  seek.Post,
   join-reads.Asked,
   join-reads.Learnt,
 )
     (seek-at t)
     seek.Post
     (seek-returns t)
-    (seek-seek-four-requires t)
+    (seek-seek-leaf-requires t)
     (seek-returns-2 t)
-    (seek-idle-sixteen-requires t)
+    (seek-idle-leaves-requires t)
     (seek-returns-3 t)
+    (seek-size-of-requires t)
     (seek-returns-4 t)
     (seek-sub-h t)
     (seek-seek-requires t)
     (seek-returns-5 t)
     (seek-returns-6 t)
-    (seek-size-of-requires t)
+    (seek-size-of-requires-2 t)
     (seek-add-seek t)
     (seek-seek-requires-2 t)
     (seek-join-requires t)

@@ -21,7 +21,7 @@ cast-check-new c = search needs
 check-new-requires : tie.Need-check-new-requires
 check-new-requires c κs =
     let s = slot-sized _ _ (change-slot _ _ (sym (c .before .before .before .check-change .ensures) ∙ c .before .enum-told .given .1)) in
-    s .long
+    (s .long, s .few)
 
 returns : tie.Need-returns
 returns c = simp (add-parts, sym (c .before .before .before .check-change .ensures) ∙ c .before .r .given .1)

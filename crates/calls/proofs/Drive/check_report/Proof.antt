@@ -32,7 +32,7 @@ enum-told-2 c = search needs
 check-held-requires : tie.Need-check-held-requires
 check-held-requires c κs =
     let s = slot-sized _ _ (sym (c .before .before .before .before .before .before .check-slot .ensures) ∙ c .before .before .before .before .enum-told .given .1) in
-    s .long
+    (s .long, s .few)
 
 returns : tie.Need-returns
 returns c = simp (report-parts, sym (c .before .before .before .check-slot .ensures) ∙ c .before .r .given .1)

@@ -40,7 +40,7 @@ cast-c : tie.Need-cast-c
 cast-c c = search needs
 
 weigh-requires : tie.Need-weigh-requires
-weigh-requires c κs = let s = slot-sized _ _ (report-slot _ _ _ (clear (c .before))) in s .long
+weigh-requires c κs = let s = slot-sized _ _ (report-slot _ _ _ (clear (c .before))) in (s .long, s .few)
 
 sub-spacing : tie.Need-sub-spacing
 sub-spacing c = let w = counted c in omega arith
