@@ -1,14 +1,15 @@
 -- What the checks of save and read find, part by part, and what is known once they find nothing. Assumes nothing.
 use mathlib.Core.Path.{_≡_, refl, sym, _∙_}
 use mathlib.Core.Bool.{Bool, true, false, not}
-use mathlib.Core.List.{List, [], _∷_}
+use mathlib.Core.List.{List, [], _∷_, _++_}
 use Prim.Native.Nat.{ℕ, _*_, _≤_, _<_}
 use native.Mathlib.Omega.{arith}
 use lib.Dec.{ltb}
-use lib.ListN.{length}
+use lib.ListN.{length, drop}
 use borrow.Author.Tests.{lt-ltb, le-ltb, ltb-false, not-false}
 use Rattle.pieces.specs.Board.{good}
 use Rattle.calls.specs.Refusals.{refuseIf, askedOutput, changeMay, openCheck, changeCheck, goodCheck, andThen}
+use Rattle.calls.specs.Results.{ifClear}
 use Rattle.calls.specs.declared.Drive.{Drive}
 use Rattle.calls.specs.declared.Refusal.{Refusal}
 use Rattle.calls.specs.declared.Refusal.the-variants.{Damaged, Output, Block}
@@ -16,7 +17,7 @@ use Rattle.calls.specs.declared.Check.{Check}
 use Rattle.calls.specs.declared.Check.the-variants.{Clear, Refused}
 use Rattle.calls.proofs.Laws.{first-next, first-clear, then-clear}
 use Rattle.sheets.specs.Sheet.{blocks, capacityIn, leavesIn, laid}
-use Rattle.sheets.specs.Results.{saveCheck, blockCheck, readCheck}
+use Rattle.sheets.specs.Results.{saveCheck, blockCheck, readCheck, loadedBoard}
 
 block-clear : (b : Bool) → blockCheck b ≡ Clear → b ≡ false
 unfolding blockCheck
@@ -121,3 +122,11 @@ module _ (s B : List ℕ) where
       pub read-tested : (g : Check) → l ≡ true → g ≡ goodCheck c (leavesIn c s) → g ≡ readCheck s B
       unfolding readCheck
       read-tested g e h = rw (le-ltb (length s) 512 long, clear-block, ← is, ← openIs, opened, ← layout, e, clear-block) h
+
+  -- and what is then in the lent board
+  pub read-kept : (x : Refusal) → Refused x ≡ readCheck s B → (Refused x ≡ readCheck s B) × (B ≡ loadedBoard s B)
+  read-kept x e = (e, rw (← e) refl)
+
+  pub read-set : (c : ℕ) (g : Check) (E : List ℕ) → c ≡ capacityIn s → g ≡ readCheck s B → E ≡ ifClear g (leavesIn c s ++ drop c B) B
+      → (g ≡ readCheck s B) × (E ≡ loadedBoard s B)
+  read-set c g E is h e = (h, rw (← is, ← h) e)

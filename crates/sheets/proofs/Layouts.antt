@@ -263,6 +263,10 @@ place-in : (b i : ℕ) → i < 253 → place (253 * b + i) ≡ 256 * b + (2 + i)
 unfolding place
 place-in b i h = omega arith
 
+pub leaf-at : (s : List ℕ) (b i : ℕ) → i < 253 → numberAt s (256 * b + (2 + i)) ≡ leafIn s (253 * b + i)
+unfolding leafIn
+leaf-at s b i h = ap (numberAt s) (sym (place-in b i h))
+
 module _ (C : ℕ) (s : List ℕ) where
   rest-length : length (restIn C s) ≡ 253 * blocks C - C
   unfolding restIn
@@ -318,7 +322,7 @@ module _ (C : ℕ) (s : List ℕ) where
         sum = λ b l. sealed-elim s b b C (each b l) .2;
         rest = λ b i l k z.
             let e : C + (253 * b + i - C) ≡ 253 * b + i = omega arith in
-            ap (numberAt s) (sym (place-in b i k)) ∙ ap (leafIn s) (sym e)
+            leaf-at s b i k ∙ ap (leafIn s) (sym e)
             ∙ sym (rest-at (253 * b + i - C) (omega arith)) ∙ zeros-at (restIn C s) idle (253 * b + i - C);
       }
 

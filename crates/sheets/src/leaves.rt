@@ -1,7 +1,7 @@
 // The form of sheet that lists the leaves: what its blocks hold, written, tested and read.
 ghost use mathlib.Core.Path.{_≡_};
 ghost use mathlib.Core.List.{_++_};
-ghost use Prim.Native.Nat.{_+_, _*_, _/_, _≤_, _<_};
+ghost use Prim.Native.Nat.{_+_, _-_, _*_, _≤_, _<_, min};
 ghost use lib.ListN.{length, drop};
 ghost use lib.Seq.{sets};
 ghost use Rattle.sheets.specs.Blocks.{listed, every, total, bytesOf};
@@ -17,36 +17,40 @@ pub fn block_count(c: usize) -> usize
     (c + (Drive::LEAVES_PER_BLOCK - 1)) / Drive::LEAVES_PER_BLOCK
 }
 
-// Leaf i of the board, and 0 after the last.
-fn leaf(board: &[u16], c: usize, i: usize) -> usize
-    requires { ⌜ c ≤ length (now board) ⌝ }
-    ensures { λ r. ⌜ (r ≡ leafOf c (now (board .entry)) i) × (r < 65536) ⌝ }
+// How many of the 253 leaves from leaf first on there are.
+fn leaf_count(c: usize, first: usize) -> usize
+    requires { ⌜ first ≤ c ⌝ }
+    ensures { λ r. ⌜ r ≡ min 253 (c - first) ⌝ }
 {
-    if i < c {
-        return board[i] as usize;
+    let rest = c - first;
+    if rest < Drive::LEAVES_PER_BLOCK {
+        return rest;
     }
-    0
+    Drive::LEAVES_PER_BLOCK
 }
 
-// Writes 253 leaves, from leaf first on, to the numbers from a on; their sum.
+// Writes 253 leaves, from leaf first on, to the numbers from a on, zeros after the last; their sum. No test for the last leaf stands in the loop and
+// the sum has 32 bits, so that the compiler takes several leaves at once.
 fn write_leaves(board: &[u16], c: usize, first: usize, output: &mut [u8], a: usize) -> usize
-    requires { ⌜ (c ≤ length (now board)) × (first ≤ 4095) × (2 * (a + 253) ≤ length (now output)) ⌝ }
+    requires { ⌜ (first ≤ c) × (c ≤ length (now board)) × (2 * (a + 253) ≤ length (now output)) ⌝ }
     ensures { λ r. ⌜ (r ≡ total (listed (leafOf c (now (board .entry))) first 253)) × (r ≤ 16580355) × (now (output .exit) ≡ sets (now (output .entry)) (2 * a) (bytesOf (listed (leafOf c (now (board .entry))) first 253))) ⌝ }
 {
-    let mut t: usize = 0;
+    let n = leaf_count(c, first);
+    let mut t: u32 = 0;
     let mut i: usize = 0;
-    while i < Drive::LEAVES_PER_BLOCK {
-        let x = leaf(board, c, first + i);
-        blocks::put_number(output, a + i, x);
-        t += x;
+    while i < n {
+        let x = board[first + i];
+        blocks::put_number(output, a + i, x as usize);
+        t += x as u32;
         i += 1;
     }
-    t
+    blocks::put_zeros(output, a + n, Drive::LEAVES_PER_BLOCK - n);
+    t as usize
 }
 
 // Writes block b.
 fn write_block(board: &[u16], c: usize, b: usize, output: &mut [u8])
-    requires { ⌜ (c ≤ length (now board)) × (c ≤ 4095) × (b ≤ 16) × (512 * b + 512 ≤ length (now output)) ⌝ }
+    requires { ⌜ (253 * b ≤ c) × (c ≤ length (now board)) × (c ≤ 4095) × (512 * b + 512 ≤ length (now output)) ⌝ }
     ensures { λ _. ⌜ now (output .exit) ≡ sets (now (output .entry)) (512 * b) (bytesOf (page c (now (board .entry)) b)) ⌝ }
 {
     blocks::start_block(output, b, b, c);
@@ -108,23 +112,42 @@ pub fn is_laid(sheet: &[u8], c: usize) -> bool
     }
 }
 
-// Leaf i of a sheet.
-fn leaf_in(sheet: &[u8], i: usize) -> u16
-    requires { ⌜ 512 * (i / 253) + 512 ≤ length (now sheet) ⌝ }
-    ensures { λ r. ⌜ r ≡ leafIn (now (sheet .entry)) i ⌝ }
+// Sets the leaves that block b holds.
+fn read_block(sheet: &[u8], c: usize, b: usize, board: &mut [u16])
+    requires { ⌜ (253 * b ≤ c) × (c ≤ length (now board)) × (512 * b + 512 ≤ length (now sheet)) ⌝ }
+    ensures { λ _. ⌜ now (board .exit) ≡ sets (now (board .entry)) (253 * b) (listed (leafIn (now (sheet .entry))) (253 * b) (min 253 (c - 253 * b))) ⌝ }
 {
-    let b = i / Drive::LEAVES_PER_BLOCK;
-    blocks::number_at(sheet, 256 * b + (2 + i % Drive::LEAVES_PER_BLOCK)) as u16
+    let first = Drive::LEAVES_PER_BLOCK * b;
+    let n = leaf_count(c, first);
+    let mut i: usize = 0;
+    while i < n {
+        board[first + i] = blocks::number_at(sheet, 256 * b + (2 + i)) as u16;
+        i += 1;
+    }
 }
 
 // Sets the leaves of a board to those of a sheet.
 pub fn read_leaves(sheet: &[u8], c: usize, board: &mut [u16])
-    requires { ⌜ (c ≤ length (now board)) × (512 * blocks c ≤ length (now sheet)) ⌝ }
+    requires { ⌜ (c ≤ length (now board)) × (c ≤ 4095) × (512 * blocks c ≤ length (now sheet)) ⌝ }
     ensures { λ _. ⌜ now (board .exit) ≡ leavesIn c (now (sheet .entry)) ++ drop c (now (board .entry)) ⌝ }
 {
+    let n = block_count(c);
+    let mut b: usize = 0;
+    while b < n {
+        read_block(sheet, c, b, board);
+        b += 1;
+    }
+}
+
+// Sets the first leaves of a board.
+pub fn set_leaves(leaves: &[u16], board: &mut [u16])
+    requires { ⌜ length (now leaves) ≤ length (now board) ⌝ }
+    ensures { λ _. ⌜ now (board .exit) ≡ now (leaves .entry) ++ drop (length (now (leaves .entry))) (now (board .entry)) ⌝ }
+{
+    let n = leaves.len();
     let mut i: usize = 0;
-    while i < c {
-        board[i] = leaf_in(sheet, i);
+    while i < n {
+        board[i] = leaves[i];
         i += 1;
     }
 }

@@ -1,10 +1,12 @@
 // Sheets of a board: save and read.
 ghost use mathlib.Core.Path.{_≡_};
+ghost use mathlib.Core.List.{_++_};
 ghost use Prim.Native.Nat.{_*_, _≤_};
-ghost use lib.ListN.{length, replicate};
+ghost use lib.ListN.{length, drop, replicate};
 ghost use Rattle.calls.specs.Refusals.{goodCheck};
+ghost use Rattle.calls.specs.Results.{ifClear};
 ghost use Rattle.sheets.specs.Sheet.{blocks, leavesIn};
-ghost use Rattle.sheets.specs.Results.{readCheck, saveCheck};
+ghost use Rattle.sheets.specs.Results.{readCheck, loadedBoard, saveCheck};
 ghost use Rattle.sheets.specs.Promises.{Saves, Loads};
 use calls::Check;
 use calls::Drive;
@@ -42,23 +44,25 @@ fn no_leaves() -> [u16; 4095]
     [0u16; 4095]
 }
 
-// The refusal 5, of the leaves of a sheet that keeps its layout.
-fn check_leaves(sheet: &[u8], c: usize) -> Check
-    requires { ⌜ (c ≤ 4095) × (512 * blocks c ≤ length (now sheet)) ⌝ }
-    ensures { λ r. ⌜ r ≡ goodCheck c (leavesIn c (now (sheet .entry))) ⌝ }
+// The refusal 5, of the leaves of a sheet that keeps its layout. They are tested in entries of its own; where they pass, the board gets them.
+fn load_leaves(sheet: &[u8], c: usize, board: &mut [u16]) -> Check
+    requires { ⌜ (c ≤ length (now board)) × (c ≤ 4095) × (512 * blocks c ≤ length (now sheet)) ⌝ }
+    ensures { λ r. ⌜ (r ≡ goodCheck c (leavesIn c (now (sheet .entry)))) × (now (board .exit) ≡ ifClear r (leavesIn c (now (sheet .entry)) ++ drop c (now (board .entry))) (now (board .entry))) ⌝ }
 {
     let mut scratch = no_leaves();
     leaves::read_leaves(sheet, c, &mut scratch);
-    if pieces::good(&scratch[..c], c) {
+    let found = &scratch[..c];
+    if pieces::good(found, c) {
+        leaves::set_leaves(found, board);
         Check::Clear
     } else {
         Check::Refused(Refusal::Damaged)
     }
 }
 
-// The refusals of read, in its order.
-fn check_read(sheet: &[u8], board: &[u16]) -> Check
-    ensures { λ r. ⌜ r ≡ readCheck (now (sheet .entry)) (now (board .entry)) ⌝ }
+// The refusals of read, in its order. Where there is none, the board gets the leaves of the sheet.
+fn load(sheet: &[u8], board: &mut [u16]) -> Check
+    ensures { λ r. ⌜ (r ≡ readCheck (now (sheet .entry)) (now (board .entry))) × (now (board .exit) ≡ loadedBoard (now (sheet .entry)) (now (board .entry))) ⌝ }
 {
     if sheet.len() < 512 {
         return Check::Refused(Refusal::Block);
@@ -68,7 +72,7 @@ fn check_read(sheet: &[u8], board: &[u16]) -> Check
         Check::Refused(r) => Check::Refused(r),
         Check::Clear => {
             if leaves::is_laid(sheet, c) {
-                check_leaves(sheet, c)
+                load_leaves(sheet, c, board)
             } else {
                 Check::Refused(Refusal::Block)
             }
@@ -116,14 +120,13 @@ pub fn save(drive: Drive, board: &[u16], output: &mut [u8]) -> Saved
 pub fn read(sheet: &[u8], board: &mut [u16]) -> Loaded
     ensures { λ r. ⌜ Loads (now (sheet .entry)) (now (board .entry)) r (now (board .exit)) ⌝ }
 {
-    match check_read(sheet, board) {
+    match load(sheet, board) {
         Check::Refused(r) => Loaded {
             drive: Drive::new(0, 0),
             answer: Loading::Refused(r),
         },
         Check::Clear => {
             let c = blocks::number_at(sheet, 1);
-            leaves::read_leaves(sheet, c, board);
             Loaded {
                 drive: Drive::new(c as u16, 1),
                 answer: Loading::Done,

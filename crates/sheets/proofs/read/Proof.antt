@@ -3,14 +3,12 @@ use mathlib.Core.Path.{refl, sym, _∙_}
 use native.Mathlib.Omega.{arith}
 use borrow.Author.Needs.{needs}
 use Rattle.sheets.specs.Sheet.{capacityIn}
-use Rattle.sheets.proofs.Layouts.{laid-layout}
 use Rattle.sheets.proofs.Checked.{clear-read}
-use Rattle.calls.proofs.Laws.{open-clear}
 use Rattle.sheets.proofs.read.Statement.{statement}
 use Rattle.sheets.proofs.read.Tie as tie
 
-check-read-requires : tie.Need-check-read-requires
-check-read-requires c κs = search needs
+load-requires : tie.Need-load-requires
+load-requires c κs = search needs
 
 enum-known-r : tie.Need-enum-known-r
 enum-known-r c = search needs
@@ -23,16 +21,8 @@ enum-told c = search needs
 
 number-at-requires : tie.Need-number-at-requires
 number-at-requires c κs =
-    let readable = clear-read _ _ (sym (c .before .before .check-read .ensures) ∙ c .enum-told .given .1) in
+    let readable = clear-read _ _ (sym (c .before .before .before .before .load .ensures .0) ∙ c .enum-told .given .1) in
     omega arith
-
-read-leaves-requires : tie.Need-read-leaves-requires
-unfolding capacityIn
-read-leaves-requires c κs =
-    let readable = clear-read _ _ (sym (c .before .before .before .before .check-read .ensures) ∙ c .before .before .enum-told .given .1) in
-    let sized = open-clear _ _ (readable .fitting) in
-    let layout = laid-layout _ _ (readable .keeps) in
-    rw (c .before .number-at .ensures .0) (omega arith)
 
 cast-new : tie.Need-cast-new
 cast-new c = search needs
@@ -45,8 +35,8 @@ same-length c = search needs
 
 returns : tie.Need-returns
 returns c =
-    let refused = sym (c .before .before .before .before .check-read .ensures) ∙ c .before .before .r .given .1 in
-    rw (refused, c .new .ensures) (refl, refl, refl)
+    let refused = sym (c .before .before .before .before .before .before .load .ensures .0) ∙ c .before .before .r .given .1 in
+    (rw (refused, c .new .ensures) refl, rw refused refl, c .before .before .before .before .before .before .load .ensures .1)
 
 same-length-2 : tie.Need-same-length-2
 same-length-2 c = search needs
@@ -54,20 +44,18 @@ same-length-2 c = search needs
 returns-2 : tie.Need-returns-2
 unfolding capacityIn
 returns-2 c =
-    let clear = sym (c .before .before .before .before .before .before .before .before .check-read .ensures) ∙ c .before .before .before .before .before .before .enum-told .given .1 in
-    let capacity = c .before .before .before .before .before .number-at .ensures .0 in
-    rw (clear, c .new2 .ensures) (rw capacity, refl, c .before .before .before .read-leaves .ensures ∙ rw capacity)
+    let clear = sym (c .before .before .before .before .before .before .load .ensures .0) ∙ c .before .before .enum-told .given .1 in
+    (rw (clear, c .new2 .ensures, c .before .number-at .ensures .0) refl, rw clear refl, c .before .before .before .before .before .before .load .ensures .1)
 
 pub read-spec : {M : Type 1} → statement M
 read-spec =
     tie.close
     (tie.spec
-    check-read-requires
+    load-requires
     enum-known-r
     new-requires
     enum-told
     number-at-requires
-    read-leaves-requires
     cast-new
     new-requires-2
     same-length
