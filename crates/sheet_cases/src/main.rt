@@ -535,6 +535,42 @@ fn run_cases(text: &[u8], at: usize, board: &mut [u16; 4095], sheet: &mut [u8; 9
     }
 }
 
+// How many of the lengths from 0 to 9,216, taken one by one, read answers so.
+fn count_lengths(sheet: &[u8; 9216], board: &mut [u16; 4095], number: u64) -> u64 {
+    let mut many: u64 = 0;
+    let mut n: usize = 0;
+    while n <= 9216 {
+        let loaded = read_part(sheet, n, board, 4095);
+        let answer = loaded.answer;
+        if answer_of(answer) == number {
+            many += 1;
+        }
+        n += 1;
+    }
+    many
+}
+
+// Every length of a sheet: one is answered 0, which the boards read back above tell, and all others 12.
+fn show_lengths(capacity: u16, board: &mut [u16; 4095], sheet: &mut [u8; 9216]) {
+    make_board(board, 2, capacity);
+    sheets::save(Drive::new(capacity, 1), board, sheet);
+    show(capacity as u64);
+    show_next(count_lengths(sheet, board, 0));
+    show_next(count_lengths(sheet, board, 12));
+    end_line();
+}
+
+fn run_lengths(board: &mut [u16; 4095], sheet: &mut [u8; 9216]) {
+    io::write_all(
+        STDOUT_FILENO,
+        b"read, each length from 0 to 9216: C, how many are answered 0, and 12\n",
+    );
+    show_lengths(1, board, sheet);
+    show_lengths(253, board, sheet);
+    show_lengths(254, board, sheet);
+    show_lengths(4095, board, sheet);
+}
+
 // Each byte of a sheet of one block changed, by amounts that make its C larger, smaller, zero and too large, and some of seventeen blocks.
 fn run_changes(board: &mut [u16; 4095], sheet: &mut [u8; 9216]) {
     run_bytes(5, 2, 1, 1, 512, 4095, board, sheet);
@@ -558,6 +594,7 @@ fn run(text: &[u8], board: &mut [u16; 4095], sheet: &mut [u8; 9216]) {
     let cases = run_tries(text, tries, board, sheet);
     run_cases(text, cases, board, sheet);
     run_changes(board, sheet);
+    run_lengths(board, sheet);
 }
 
 fn main() {
