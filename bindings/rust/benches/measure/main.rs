@@ -34,6 +34,28 @@ impl Scheduler for Linked {
     }
 }
 
+/// The library's slot board, a round at a time: for a user who changes streams between rounds alone.
+#[cfg(linked)]
+struct ByRounds {
+    drive: mandrozsi::Drive,
+    board: Vec<u16>,
+    names: Vec<u16>,
+    served: usize,
+}
+
+#[cfg(linked)]
+impl Scheduler for ByRounds {
+    fn next(&mut self) -> usize {
+        if self.served == self.names.len() {
+            self.names.resize(self.board.len(), 0);
+            self.drive.round(&self.board, &mut self.names).expect("an opened board");
+            self.served = 0;
+        }
+        self.served += 1;
+        usize::from(self.names[self.served - 1]) - 1
+    }
+}
+
 /// The slot board of the version written for speed.
 struct ByHand {
     record: (u16, u16),
@@ -68,6 +90,16 @@ fn all(weights: &[u32]) -> Vec<(&'static str, Box<dyn Scheduler>)> {
             Box::new(Linked {
                 drive: boundary::drive((capacity, 1)),
                 board: board.clone(),
+            }),
+        ),
+        #[cfg(linked)]
+        (
+            "slot board by rounds",
+            Box::new(ByRounds {
+                drive: boundary::drive((capacity, 1)),
+                board: board.clone(),
+                names: Vec::new(),
+                served: 0,
             }),
         ),
         (
@@ -177,8 +209,8 @@ fn print_schedulers(points: &[Point], csv: &mut String) {
 fn strips() -> Vec<(&'static str, Vec<usize>)> {
     let mut rows = Vec::new();
     for (name, mut scheduler) in all(&[6, 4, 3, 2]) {
-        // By hand or from the library, the slot board is one.
-        let name = name.trim_end_matches(" by hand");
+        // By hand, by rounds or slot by slot, the slot board is one.
+        let name = if name.starts_with("slot board") { "slot board" } else { name };
         if rows.iter().all(|&(other, _)| other != name) {
             rows.push((name, (0..15).map(|_| scheduler.next()).collect()));
         }

@@ -2,7 +2,9 @@
 use crate::Point;
 use std::fmt::Write as _;
 
-const COLOURS: [&str; 8] = ["#c0392b", "#e59866", "#7f8c8d", "#a9b7b8", "#2980b9", "#16a085", "#8e44ad", "#2c3e50"];
+const COLOURS: [&str; 9] = [
+    "#c0392b", "#d35400", "#e59866", "#7f8c8d", "#a9b7b8", "#2980b9", "#16a085", "#8e44ad", "#2c3e50",
+];
 
 const WIDTH: f64 = 860.0;
 const HEIGHT: f64 = 460.0;
@@ -21,7 +23,7 @@ fn head(out: &mut String, width: f64, height: f64, title: &str) {
     .unwrap();
 }
 
-/// One line for each scheduler, the first on top, with its name at its end; names that would overlap move down.
+/// One line for each scheduler, the first on top, with its name at its end; names that would overlap, or leave the picture, move apart.
 pub fn lines(title: &str, unit: &str, points: &[Point], value: impl Fn(&Point) -> f64) -> String {
     let names: Vec<&str> = points.iter().map(|p| p.scheduler).fold(Vec::new(), |mut seen, name| {
         if !seen.contains(&name) {
@@ -88,8 +90,9 @@ pub fn lines(title: &str, unit: &str, points: &[Point], value: impl Fn(&Point) -
     }
     labels.sort_by(|a, b| a.0.total_cmp(&b.0));
     let mut last = f64::MIN;
-    for (y, name, colour) in labels {
-        last = y.max(last + 16.0);
+    let many = labels.len();
+    for (i, (y, name, colour)) in labels.into_iter().enumerate() {
+        last = y.min(BOTTOM - 16.0 * (many - 1 - i) as f64).max(last + 16.0);
         writeln!(
             out,
             r##"<text x="{:.1}" y="{:.1}" fill="{colour}">{name}</text>"##,
