@@ -1,4 +1,4 @@
--- Placing a weight: where each power of it goes, what that does to the counts, and that there is room exactly where the idle leaves are enough. Assumes nothing.
+-- Placing a weight: where each power of it goes, what that does to the counts, and that there is room where the idle leaves are enough. Assumes nothing.
 use mathlib.Core.Path.{_≡_, refl, sym, ap, _∙_, subst}
 use mathlib.Core.Bool.{Bool, true, false, cond}
 use mathlib.Core.List.{List}
@@ -13,9 +13,9 @@ use lib.Seq.{getD-set-same, getD-set-other}
 use lib.Pow.{pow-pos, mod-pow-add}
 use borrow.Author.Tests.{lt-ltb, le-ltb, ltb-true, ltb-false, eqb-true, eqb-false, eq-eqb, ne-eqb}
 use Rattle.pieces.specs.Board.{bit, whole, pieces, Good}
-use Rattle.pieces.proofs.Blocks.{runs, leaves, total, In, by-bool, clash, and-left, and-right, and-intro, whole-end, whole-elim, whole-intro, whole-low, whole-high, runs-yes, runs-above, runs-other, pieces-runs, bit-le}
 use Rattle.pieces.specs.Placing.{fill, first, fit, spot, put, place, placed}
 use Rattle.pieces.specs.Halving.{roomy}
+use Rattle.pieces.proofs.Blocks.{runs, leaves, total, In, by-bool, clash, and-intro, whole-end, whole-elim, whole-intro, whole-low, whole-high, runs-yes, runs-above, runs-other, pieces-runs, bit-le}
 use Rattle.pieces.proofs.Replace.{runs-replace}
 use Rattle.pieces.proofs.Weight.{leaves-runs, runs-div, pieces-digit, leaves-pieces}
 use Rattle.pieces.proofs.Piece.{Piece, nth-piece, whole-sub, in-trans}
@@ -28,7 +28,7 @@ unfolding fill
 length-fill B a zero x = refl
 length-fill B a (suc n) x = length-set (fill B a n x) (a + n) x ∙ length-fill B a n x
 
-pub fill-in : (B : List ℕ) (a n x i : ℕ) → a ≤ i → i < a + n → i < length B → getD (fill B a n x) i 0 ≡ x
+fill-in : (B : List ℕ) (a n x i : ℕ) → a ≤ i → i < a + n → i < length B → getD (fill B a n x) i 0 ≡ x
 unfolding fill
 fill-in B a zero x i p q h = absurd (omega arith)
 fill-in B a (suc n) x i p q h =
@@ -69,7 +69,7 @@ first-before p e (suc k) i h g =
       | no r ↦ first-before p (suc e) k i (omega arith) (rw f at g)
     ])
 
-pub first-found : (p : ℕ → Bool) (e k i : ℕ) → e ≤ i → i < e + k → p i ≡ true → p (first p e k) ≡ true
+first-found : (p : ℕ → Bool) (e k i : ℕ) → e ≤ i → i < e + k → p i ≡ true → p (first p e k) ≡ true
 unfolding first
 first-found p e zero i h g t = absurd (omega arith)
 first-found p e (suc k) i h g t =
@@ -93,7 +93,7 @@ module _ (C : ℕ) (B : List ℕ) (x a l : ℕ) where
   none-large zero n g h = runs-above C B x n a l (omega arith)
   none-large (suc d) n g h = omega (arith, pieces-runs C B x n a l, h n (omega arith) (omega arith), none-large d (suc n) (omega arith) (λ e p q. h e (omega arith) (omega arith)))
 
-  pub few-leaves : ((e : ℕ) → pieces C B x e a l ≤ 1) → (n : ℕ) → runs C B x n a l ≡ 0 → leaves C B x a l < 2 ^ n
+  few-leaves : ((e : ℕ) → pieces C B x e a l ≤ 1) → (n : ℕ) → runs C B x n a l ≡ 0 → leaves C B x a l < 2 ^ n
   few-leaves one n h = omega (arith, div-lt-iff-lt-mul (pow-pos n) .0 (let k : leaves C B x a l / 2 ^ n < 1 = omega (arith, runs-div C B x a l one n) in k))
 
 module _ (C : ℕ) (B : List ℕ) (x : ℕ) where
@@ -111,8 +111,8 @@ module _ (C : ℕ) (B : List ℕ) (x : ℕ) where
       (λ f. rw f (omega arith))
   leaves-le a (suc l) = omega (arith, two-pow-succ l, leaves-le a l, leaves-le (a + 2 ^ l) l)
 
--- with room for 2^n leaves there is an idle piece of 2^n leaves or more, and `fit` finds the smallest
-pub fit-found : (C : ℕ) (B : List ℕ) → ((e : ℕ) → pieces C B 0 e 0 12 ≤ 1) → (n : ℕ) → 2 ^ n ≤ total C B 0 → 0 < pieces C B 0 (fit C B n) 0 12
+-- With room for 2^n leaves there is an idle piece of 2^n leaves or more, and `fit` finds the smallest.
+fit-found : (C : ℕ) (B : List ℕ) → ((e : ℕ) → pieces C B 0 e 0 12 ≤ 1) → (n : ℕ) → 2 ^ n ≤ total C B 0 → 0 < pieces C B 0 (fit C B n) 0 12
 unfolding fit
 fit-found C B one n room =
     let has : ℕ → Bool = λ e. ltb 0 (pieces C B 0 e 0 12) in
@@ -138,7 +138,7 @@ module _ (C : ℕ) (B : List ℕ) (n : ℕ) where
 
 -- ---- what placing does to the counts
 
--- B′ is B with pieces of x on idle leaves: `more f` pieces of the size 2^f, and `gained` leaves
+-- B′ is B with pieces of x on idle leaves: `more f` pieces of the size 2^f, and `gained` leaves.
 pub record Added (C : ℕ) (B B′ : List ℕ) (x gained : ℕ) (more : ℕ → ℕ) : Type 0 where
   pub size : length B′ ≡ length B
   pub others : (y f : ℕ) → (y ≡ 0 → ⊥) → (y ≡ x → ⊥) → pieces C B′ y f 0 12 ≡ pieces C B y f 0 12
@@ -192,7 +192,7 @@ module _ (C : ℕ) (B : List ℕ) (x n : ℕ) (long : C ≤ length B) (named : x
         runs-replace C B (put C B x n) (spot C B n) n (f .outside) y 0 (omega arith) (in-trans ends (p .inside)),
       )
 
-  pub put-added : Added C B (put C B x n) x (2 ^ n) (λ e. bit (eqb e n))
+  put-added : Added C B (put C B x n) x (2 ^ n) (λ e. bit (eqb e n))
   unfolding put
   put-added =
       record {
@@ -206,9 +206,9 @@ module _ (C : ℕ) (B : List ℕ) (x n : ℕ) (long : C ≤ length B) (named : x
         beyond = λ i h. fill-out B (spot C B n) (2 ^ n) x i (λ s t. omega (arith, whole-end C B 0 (spot C B n) n old));
       }
 
--- ---- the whole total
+-- ---- the whole weight
 
--- the digit f of w, where it is below the digit k
+-- The digit f of w, where it is below the digit k.
 unfoldable pub digit : ℕ → ℕ → ℕ → ℕ
 digit w k f = cond (ltb f k) (w / 2 ^ f % 2) 0
 
@@ -250,8 +250,8 @@ added-then {B = B} u v t k s z =
       beyond = λ i p. v .beyond i p ∙ u .beyond i p;
     }
 
--- the powers of w below 2^k
-pub place-added : (C : ℕ) (B : List ℕ) (x w k : ℕ) → C ≤ length B → (x ≡ 0 → ⊥) → ((e : ℕ) → pieces C B 0 e 0 12 ≤ 1) → w % 2 ^ k ≤ total C B 0
+-- The powers of w below 2^k.
+place-added : (C : ℕ) (B : List ℕ) (x w k : ℕ) → C ≤ length B → (x ≡ 0 → ⊥) → ((e : ℕ) → pieces C B 0 e 0 12 ≤ 1) → w % 2 ^ k ≤ total C B 0
     → ((e : ℕ) → e < k → pieces C B x e 0 12 ≡ 0) → Added C B (place C B x w k) x (w % 2 ^ k) (digit w k)
 unfolding place
 place-added C B x w zero long named one room fresh =
@@ -270,27 +270,8 @@ place-added C B x w (suc k) long named one room fresh =
     let v = place-added C B x w k long named one (omega (arith, low-digits w k)) (λ f h. fresh f (omega arith)) in
     added-then (added-none C B x one) v (w % 2 ^ suc k) (digit w (suc k)) (omega (arith, low-digits w k)) (λ f. omega (arith, digit-suc w k f, ap (λ (m : ℕ). m * bit (eqb f k)) d))))
 
--- each power finds its piece exactly where the idle leaves are enough
-pub roomy-room : (C : ℕ) (B : List ℕ) (x w k : ℕ) → C ≤ length B → (x ≡ 0 → ⊥) → ((e : ℕ) → pieces C B 0 e 0 12 ≤ 1) → ((e : ℕ) → e < k → pieces C B x e 0 12 ≡ 0)
-    → roomy C B x w k ≡ true → w % 2 ^ k ≤ total C B 0
-unfolding roomy
-roomy-room C B x w zero long named one fresh t = omega arith
-roomy-room C B x w (suc k) long named one fresh t =
-    by-bool (eqb (w / 2 ^ k % 2) 1)
-    (λ g.
-    let d : w / 2 ^ k % 2 ≡ 1 = eqb-true (w / 2 ^ k % 2) 1 g in
-    let e : w / 2 ^ k % 2 * 2 ^ k ≡ 1 * 2 ^ k = ap (λ (m : ℕ). m * 2 ^ k) d in
-    let s = rw g at t in
-    let u = put-added C B x k long named one (ltb-true 0 (pieces C B 0 (fit C B k) 0 12) (and-left (ltb 0 (pieces C B 0 (fit C B k) 0 12)) (roomy C (put C B x k) x w k) s)) (fresh k (omega arith)) in
-    let v = roomy-room C (put C B x k) x w k (omega (arith, u .size)) named (u .one) (λ f h. u .name f ∙ omega (arith, fresh f (omega arith), ap bit (ne-eqb f k (λ q. omega arith)))) (and-right (ltb 0 (pieces C B 0 (fit C B k) 0 12)) (roomy C (put C B x k) x w k) s) in
-    omega (arith, u .idle, v, low-digits w k))
-    (λ g.
-    let d : w / 2 ^ k % 2 ≡ 0 = omega (arith, eqb-false (w / 2 ^ k % 2) 1 g) in
-    let e : w / 2 ^ k % 2 * 2 ^ k ≡ 0 * 2 ^ k = ap (λ (m : ℕ). m * 2 ^ k) d in
-    let s = rw g at t in
-    omega (arith, low-digits w k, roomy-room C B x w k long named one (λ f h. fresh f (omega arith)) s))
-
-pub room-roomy : (C : ℕ) (B : List ℕ) (x w k : ℕ) → C ≤ length B → (x ≡ 0 → ⊥) → ((e : ℕ) → pieces C B 0 e 0 12 ≤ 1) → ((e : ℕ) → e < k → pieces C B x e 0 12 ≡ 0)
+-- Each power finds its piece where the idle leaves are enough.
+room-roomy : (C : ℕ) (B : List ℕ) (x w k : ℕ) → C ≤ length B → (x ≡ 0 → ⊥) → ((e : ℕ) → pieces C B 0 e 0 12 ≤ 1) → ((e : ℕ) → e < k → pieces C B x e 0 12 ≡ 0)
     → w % 2 ^ k ≤ total C B 0 → roomy C B x w k ≡ true
 unfolding roomy
 room-roomy C B x w zero long named one fresh h = refl
@@ -308,7 +289,7 @@ room-roomy C B x w (suc k) long named one fresh h =
     let e : w / 2 ^ k % 2 * 2 ^ k ≡ 0 * 2 ^ k = ap (λ (m : ℕ). m * 2 ^ k) d in
     rw g (room-roomy C B x w k long named one (λ f h. fresh f (omega arith)) (omega (arith, low-digits w k))))
 
--- a weight that the idle leaves can take is placed, and the board stays good
+-- A weight that the idle leaves can take is placed, and the board stays good.
 module _ (C : ℕ) (B : List ℕ) (x w : ℕ) (small : C ≤ 4095) (long : C ≤ length B) (named : x ≡ 0 → ⊥) (good : Good C B) (absent : total C B x ≡ 0) (room : w ≤ total C B 0) where
   short : w % 2 ^ 12 ≡ w
   short = omega (arith, leaves-le C B 0 0 12)
@@ -316,7 +297,7 @@ module _ (C : ℕ) (B : List ℕ) (x w : ℕ) (small : C ≤ 4095) (long : C ≤
   none : (e : ℕ) → pieces C B x e 0 12 ≡ 0
   none e = pieces-digit C B x 0 12 (good x) e ∙ rw absent (omega (arith, zero-div (2 ^ e)))
 
-  -- each power finds its piece
+  -- Each power finds its piece.
   pub placed-roomy : roomy C B x w 12 ≡ true
   placed-roomy = room-roomy C B x w 12 long named (good 0) (λ e h. none e) (omega (arith, short))
 

@@ -19,22 +19,22 @@ use Rattle.pieces.proofs.Adding as adding
 use Rattle.pieces.proofs.Removed as removing
 use Rattle.pieces.proofs.Sums as sums
 
--- a stream of weight w on a good board has as many pieces as w has ones
+-- A stream of weight w on a good board has as many pieces as w has ones.
 pub pieces-ones : (C : ℕ) (B : List ℕ) (x : ℕ) → C ≤ 4095 → good C B ≡ true → number C B x ≡ ones (weight C B x)
 pieces-ones C B x few sound = weights.good-number C B (good-elim C B sound) x ∙ ap ones (sym (weights.weight-total C B x (omega arith)))
 
--- whether a board is good hangs on its leaves alone, and not on the entries beyond them
+-- Whether a board is good hangs on its leaves alone, and not on the entries beyond them.
 pub good-same : (C : ℕ) (B B′ : List ℕ) → ((i : ℕ) → i < C → getD B i 0 ≡ getD B′ i 0) → good C B ≡ true → good C B′ ≡ true
 good-same C B B′ same sound =
     let agree : Agree C B B′ 0 12 = λ i c p q. same i c in
     good-intro C B′ (λ x e.
     omega (arith, good-elim C B sound x e, pieces-runs C B x e 0 12, pieces-runs C B′ x e 0 12, runs-local C B B′ x e 0 12 agree, runs-local C B B′ x (suc e) 0 12 agree))
 
--- an idle board is good
+-- An idle board is good.
 pub opened-good : (C : ℕ) (B : List ℕ) → C ≤ 4095 → ((i : ℕ) → i < C → getD B i 0 ≡ 0) → good C B ≡ true
 opened-good C B few idle = good-intro C B (idle-good C B idle few)
 
--- whatever is counted at the leaves of a name, and is near 2^l * T on each of its runs of 2^l leaves up to D, is near its weight times T up to D for each of its pieces
+-- Whatever is counted at the leaves of a name, and is near 2^l * T on each of its runs of 2^l leaves up to D, is near its weight times T up to D for each of its pieces.
 pub over-pieces : (C : ℕ) (B : List ℕ) (x : ℕ) (s : ℕ → ℕ → ℕ) (K T D : ℕ)
     → ((a l : ℕ) → s a (suc l) ≡ s a l + s (a + 2 ^ l) l)
     → ((a : ℕ) → (a < C → getD B a 0 ≡ x → ⊥) → s a 0 ≡ 0)
@@ -60,31 +60,31 @@ module _ (C : ℕ) (B : List ℕ) (x w : ℕ) (may : Placeable C B x w) where
   added : adding.Added C B (placed C B x w) x w (adding.digit w 12)
   added = adding.placed-added C B x w (may .small) (may .long) (may .named) sound absent room
 
-  -- it has as many entries
+  -- It has as many entries.
   pub placed-length : length (placed C B x w) ≡ length B
   placed-length = added .size
 
-  -- it is good
+  -- It is good.
   pub placed-good : good C (placed C B x w) ≡ true
   placed-good = good-intro C (placed C B x w) (adding.placed-good C B x w (may .small) (may .long) (may .named) sound absent room)
 
-  -- the stream holds its weight
+  -- The stream holds its weight.
   pub placed-weight : weight C (placed C B x w) x ≡ w
   placed-weight = same (placed C B x w) x ∙ adding.placed-weight C B x w (may .small) (may .long) (may .named) sound absent room
 
-  -- which the idle leaves lose
+  -- The idle leaves lose it.
   pub placed-idle : weight C (placed C B x w) 0 + w ≡ weight C B 0
   placed-idle = rw (same (placed C B x w) 0, same B 0) (added .idle)
 
-  -- every other stream keeps its weight
+  -- Every other stream keeps its weight.
   pub placed-others : (y : ℕ) → (y ≡ 0 → ⊥) → (y ≡ x → ⊥) → weight C (placed C B x w) y ≡ weight C B y
   placed-others y n m = rw (same (placed C B x w) y, same B y) (adding.placed-others C B x w (may .small) (may .long) (may .named) sound absent room y n m)
 
-  -- and its very leaves
+  -- It keeps its very leaves, too.
   pub placed-leaf : (i : ℕ) → (getD B i 0 ≡ 0 → ⊥) → getD (placed C B x w) i 0 ≡ getD B i 0
   placed-leaf = added .leaf
 
-  -- entries beyond C stay
+  -- Entries beyond C stay.
   pub placed-beyond : (i : ℕ) → C ≤ i → getD (placed C B x w) i 0 ≡ getD B i 0
   placed-beyond = added .beyond
 
@@ -97,26 +97,26 @@ module _ (C : ℕ) (B : List ℕ) (x : ℕ) (may : Removable C B x) where
   was-good : Good C B
   was-good = good-elim C B (may .sound)
 
-  -- it has as many entries
+  -- It has as many entries.
   pub removed-length : length (removed C B x) ≡ length B
   removed-length = removing.removed-length C B x (may .long) (may .named) was-good
 
-  -- it is good
+  -- It is good.
   pub removed-good : good C (removed C B x) ≡ true
   removed-good = good-intro C (removed C B x) (removing.removed-good C B x (may .long) (may .named) was-good)
 
-  -- no leaf holds the name
+  -- No leaf holds the name.
   pub removed-name : weight C (removed C B x) x ≡ 0
   removed-name = alike (removed C B x) x ∙ removing.removed-name C B x (may .long) (may .named) was-good
 
-  -- the idle leaves gain its weight
+  -- The idle leaves gain its weight.
   pub removed-idle : weight C (removed C B x) 0 ≡ weight C B 0 + weight C B x
   removed-idle = rw (alike (removed C B x) 0, alike B 0, alike B x) (removing.removed-idle C B x (may .long) (may .named) was-good)
 
-  -- every other stream keeps its weight
+  -- Every other stream keeps its weight.
   pub removed-others : (y : ℕ) → (y ≡ 0 → ⊥) → (y ≡ x → ⊥) → weight C (removed C B x) y ≡ weight C B y
   removed-others y n m = rw (alike (removed C B x) y, alike B y) (removing.removed-others C B x (may .long) (may .named) was-good y n m)
 
-  -- entries beyond C stay
+  -- Entries beyond C stay.
   pub removed-beyond : (i : ℕ) → C ≤ i → getD (removed C B x) i 0 ≡ getD B i 0
   removed-beyond = removing.removed-beyond C B x (may .long) (may .named) was-good

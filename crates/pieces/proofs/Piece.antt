@@ -9,10 +9,10 @@ use native.Mathlib.Decide.{decLt, ℕ-discrete}
 use lib.Pow.{pow-pos}
 use borrow.Author.Tests.{lt-ltb, le-ltb}
 use Rattle.pieces.specs.Board.{whole, pieces, nth}
-use Rattle.pieces.proofs.Blocks.{In, here, low, high, by-bool, clash, whole-low, whole-high, runs-no, runs-above, runs-apart, pieces-runs, pieces-yes, pieces-no}
+use Rattle.pieces.proofs.Blocks.{In, here, low, high, by-bool, never, clash, whole-low, whole-high, runs-no, runs-above, runs-apart, pieces-runs, pieces-yes, pieces-no}
 use Rattle.pieces.proofs.Replace.{bounds, NoParent}
 
--- a block within a block that is halved
+-- A block within a block that is halved.
 pub in-cases : {a e b l : ℕ} → In a e b (suc l) → ((a ≡ b) × (e ≡ suc l)) ⊎ (In a e b l) ⊎ (In a e (b + 2 ^ l) l)
 in-cases here = inl (refl, refl)
 in-cases (low i) = inr (inl i)
@@ -23,7 +23,7 @@ in-trans i here = i
 in-trans i (low j) = low (in-trans i j)
 in-trans i (high j) = high (in-trans i j)
 
--- a block that is not all of the larger one has its parent in it
+-- A block that is not all of the larger one has its parent in it.
 pub parent : {a e b l : ℕ} → In a e b l → e < l → (q : ℕ) × (In a e q (suc e)) × (In q (suc e) b l)
 parent here h = absurd (omega arith)
 parent {a} {e} (low {b} {l} i) h =
@@ -37,7 +37,7 @@ parent {a} {e} (high {b} {l} i) h =
       | no r ↦ let w = parent i (omega arith) in (w .0, w .1, high (w .2))
     ]
 
--- two blocks of one size are the same, or apart
+-- Two blocks of one size are the same, or apart.
 pub apart : {a c e b l : ℕ} → In a e b l → In c e b l → (a ≡ c) ⊎ (a + 2 ^ e ≤ c) ⊎ (c + 2 ^ e ≤ a)
 apart here j = let s = bounds j in inl (omega arith)
 apart (low {b} {l} i) j =
@@ -47,7 +47,7 @@ apart (high {b} {l} i) j =
     let s = bounds i in
     ⊎-elim (λ r. absurd (omega arith)) (⊎-elim (λ k. let t = bounds k in inr (inr (omega arith))) (λ k. apart i k)) (in-cases j)
 
--- a half of a block has a twin, the other half
+-- A half of a block has a twin, the other half.
 pub record Twin (a e q : ℕ) : Type 0 where
   pub other : ℕ
   pub inside : In other e q (suc e)
@@ -71,7 +71,7 @@ module _ (C : ℕ) (B : List ℕ) (x : ℕ) where
   pieces-apart e a l h =
       omega (arith, pieces-runs C B x e a (suc l), pieces-runs C B x e a l, pieces-runs C B x e (a + 2 ^ l) l, runs-apart C B x e a l h, runs-apart C B x (suc e) a l h)
 
-  -- (a, e) is a run of x that lies in no larger one in (b, l)
+  -- (a, e) is a run of x that lies in no larger one in (b, l).
   pub record Piece (a e b l : ℕ) : Type 0 where
     pub inside : In a e b l
     pub run : whole C B x a e ≡ true
@@ -118,7 +118,7 @@ module _ (C : ℕ) (B : List ℕ) (x : ℕ) where
       away : (q : ℕ) → In a e q (suc e) → In q (suc e) b l → whole C B x q (suc e) ≡ false
       away q i j = let s = bounds i in let t = bounds j in let u = bounds (p .inside) in absurd (omega (arith, pow-pos e))
 
-  -- what `nth` finds is a piece
+  -- What `nth` finds is a piece.
   pub nth-piece : (e k b l : ℕ) → k < pieces C B x e b l → Piece (nth C B x e k b l) e b l
   nth-piece e k b zero h =
       by-bool (whole C B x b zero) (λ t. piece-all e k b zero t h) (λ f. absurd (omega (arith, pieces-none e b f)))
@@ -136,7 +136,7 @@ module _ (C : ℕ) (B : List ℕ) (x : ℕ) where
         | no r ↦ omega (arith, pieces-no C B x x e b l t (λ p q. r q))
       ]
 
-  -- in the order of starts
+  -- In the order of starts.
   pub nth-order : (e k j b l : ℕ) → k < j → j < pieces C B x e b l → nth C B x e k b l + 2 ^ e ≤ nth C B x e j b l
   nth-order e k j b zero h g =
       by-bool (whole C B x b zero) (λ t. absurd (omega (arith, pieces-one e b zero t))) (λ f. absurd (omega (arith, pieces-none e b f)))
@@ -156,9 +156,9 @@ module _ (C : ℕ) (B : List ℕ) (x : ℕ) where
 
   not-whole : {a e b l : ℕ} → In a e b l → e < l → NoParent C B x a e b l → whole C B x b l ≡ false
   not-whole {b = b} {l = l} i h t =
-      by-bool (whole C B x b l) (λ w. let p = parent i h in clash (whole-sub (p .2) w) (t (p .0) (p .1) (p .2))) (λ f. f)
+      never (whole C B x b l) (λ w. let p = parent i h in clash (whole-sub (p .2) w) (t (p .0) (p .1) (p .2)))
 
-  -- every piece is found
+  -- Every piece is found.
   pub piece-nth : {a e b l : ℕ} → Piece a e b l → (k : ℕ) × (k < pieces C B x e b l) × (nth C B x e k b l ≡ a)
   piece-nth {a} {e} p = go (p .inside) (p .top)
     where
@@ -176,7 +176,7 @@ module _ (C : ℕ) (B : List ℕ) (x : ℕ) where
           let n = pieces C B x e b l in
           (n + w .0, omega (arith, pieces-apart e b l f, w .1), nth-high e (n + w .0) b l f (omega arith) ∙ ap (λ (k : ℕ). nth C B x e k (b + 2 ^ l) l) (omega arith) ∙ w .2)
 
-  -- so a piece is counted, and two are counted twice
+  -- So a piece is counted, and two are counted twice.
   pub piece-counted : {a e b l : ℕ} → Piece a e b l → 1 ≤ pieces C B x e b l
   piece-counted p = omega (arith, piece-nth p .1)
 

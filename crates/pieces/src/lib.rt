@@ -10,7 +10,7 @@ ghost use Rattle.pieces.specs.Placing as placing;
 ghost use Rattle.pieces.specs.Tidying as tidying;
 ghost use Rattle.pieces.specs.Halving as halving;
 
-// The number of leaves of a run.
+// The number of leaves of a run of exponent l.
 fn size_of(l: usize) -> usize
     requires { ⌜ l ≤ 12 ⌝ }
     ensures { λ r. ⌜ r ≡ 2 ^ l ⌝ }
@@ -18,7 +18,7 @@ fn size_of(l: usize) -> usize
     1usize << l
 }
 
-// How many of the leaves from a on hold a name. Counted in sixteen bits, the width of a leaf: the compiler then compares eight leaves or more at once.
+// How many of some leaves in a row, from a on, hold a name. The count has the width of a leaf: the compiler then compares eight leaves or more at once.
 fn count(board: &[u16], a: usize, size: usize, x: u16) -> usize
     requires { ⌜ (a + size ≤ length (now board)) × (a + size ≤ 4096) ⌝ }
     ensures { λ r. ⌜ r ≡ halving.countFrom (now (board .entry)) x a size ⌝ }
@@ -42,7 +42,8 @@ pub fn weigh(board: &[u16], c: usize, name: u16) -> usize
     count(board, 0, c, name)
 }
 
-// Whether a search counts a block before it halves it: one that lies on the board. Large blocks are seldom of one name, and each exponent counted is a pass.
+// Whether a search counts a block before it halves it: one of at most 256 leaves that lies on the board. Larger blocks are seldom of one name,
+// and each exponent counted is one more pass over the board.
 fn countable(c: usize, a: usize, l: usize) -> bool
     requires { ⌜ (l ≤ 12) × (a + 2 ^ l ≤ 4096) ⌝ }
     ensures { λ r. ⌜ (r ≡ true → a + 2 ^ l ≤ c) ⌝ }
@@ -53,7 +54,7 @@ fn countable(c: usize, a: usize, l: usize) -> bool
     false
 }
 
-// Whether a count shows a block to be a run of one name.
+// Whether a count shows a block to be a run of one name. False tells nothing.
 fn is_run(board: &[u16], c: usize, a: usize, l: usize) -> bool
     requires { ⌜ halving.Block c (length (now board)) a l ⌝ }
     ensures { λ r. ⌜ (r ≡ true → boards.whole c (now (board .entry)) (getD (now (board .entry)) a 0) a l ≡ true) ⌝ }
@@ -65,7 +66,7 @@ fn is_run(board: &[u16], c: usize, a: usize, l: usize) -> bool
     false
 }
 
-// How many leaves of a block are idle; 1 where they are not counted.
+// How many leaves of a block are idle; 1, which tells nothing, where they are not counted.
 fn idle_leaves(board: &[u16], c: usize, a: usize, l: usize) -> usize
     requires { ⌜ halving.Block c (length (now board)) a l × (0 < l) ⌝ }
     ensures { λ r. ⌜ halving.Idle c (now (board .entry)) a l r ⌝ }
@@ -78,12 +79,13 @@ fn idle_leaves(board: &[u16], c: usize, a: usize, l: usize) -> usize
 
 // ---- the test for a good board
 
-// What a scan says of a block that is no run of one name, and of one where a name has two pieces of one size.
+// What a scan says of a block that is no run of one name.
 const PARTS: usize = 65536;
 
+// And of one where a name has two pieces of one size.
 const TWICE: usize = 65537;
 
-// Notes a piece of exponent h in the mask of its name; whether there was one already.
+// Notes a piece of the name x and exponent h in the mask of x, unless x is PARTS; whether there was one already.
 fn note(x: usize, h: usize, sizes: &mut [u16]) -> bool
     requires { ⌜ (x ≤ 65536) × (h < 12) × (length (now sizes) ≡ 65536) ⌝ }
     ensures { λ r. ⌜ halving.Noted x h (now (sizes .entry)) (now (sizes .exit)) r ⌝ }
@@ -99,7 +101,7 @@ fn note(x: usize, h: usize, sizes: &mut [u16]) -> bool
     false
 }
 
-// The two halves of a block, of exponent h: each that is a run is a piece, where the block is no run.
+// A block by what its halves are, of exponent h: each that is a run is a piece, and is noted, where the block is no run.
 fn meet(f: usize, g: usize, h: usize, sizes: &mut [u16]) -> usize
     requires { ⌜ (f ≤ 65536) × (g ≤ 65536) × (h < 12) × (length (now sizes) ≡ 65536) ⌝ }
     ensures { λ r. ⌜ halving.Met f g h (now (sizes .entry)) (now (sizes .exit)) r ⌝ }
@@ -154,7 +156,7 @@ fn scan_four(board: &[u16], c: usize, a: usize, sizes: &mut [u16]) -> usize
 }
 
 // The name of a block that is a run of one name; else PARTS, with every piece inside noted, or TWICE.
-// The last two halvings are written out: they are three calls in four.
+// A run is told by its count and not halved. The last two halvings are written out: they are three calls in four.
 fn scan(board: &[u16], c: usize, a: usize, l: usize, sizes: &mut [u16]) -> usize
     requires { ⌜ halving.Block c (length (now board)) a l × (2 ≤ l) × (length (now sizes) ≡ 65536) ⌝ }
     ensures { λ r. ⌜ halving.Scanned c (now (board .entry)) a l (now (sizes .entry)) (now (sizes .exit)) r ⌝ }
@@ -204,22 +206,25 @@ struct Spot {
     start: usize,
 }
 
+// No piece.
+const NOWHERE: Spot = Spot {
+    exponent: 13,
+    start: 0,
+};
+
 // No piece, where a block is idle but too small.
 fn settle(s: Spot, n: usize) -> Spot
     ensures { λ r. ⌜ r ≡ halving.settled s n ⌝ }
 {
     if s.exponent < n {
-        return Spot {
-            exponent: 13,
-            start: 0,
-        };
+        return NOWHERE;
     }
     s
 }
 
 // The smaller of two pieces, the left one where they are equal.
-fn nearer(f: Spot, g: Spot) -> Spot
-    ensures { λ r. ⌜ r ≡ halving.nearer f g ⌝ }
+fn smaller(f: Spot, g: Spot) -> Spot
+    ensures { λ r. ⌜ r ≡ halving.smaller f g ⌝ }
 {
     if g.exponent < f.exponent {
         return g;
@@ -240,10 +245,10 @@ fn join(f: Spot, g: Spot, a: usize, h: usize, n: usize) -> Spot
             };
         }
     }
-    nearer(settle(f, n), settle(g, n))
+    smaller(settle(f, n), settle(g, n))
 }
 
-// A leaf that is idle.
+// The leaf at a, where it is idle.
 fn seek_leaf(board: &[u16], c: usize, a: usize) -> Spot
     requires { ⌜ halving.Block c (length (now board)) a 0 ⌝ }
     ensures { λ r. ⌜ ((n : ℕ) → halving.Spotted c (now (board .entry)) n a 0 r) ⌝ }
@@ -256,33 +261,25 @@ fn seek_leaf(board: &[u16], c: usize, a: usize) -> Spot
             };
         }
     }
-    Spot {
-        exponent: 13,
-        start: 0,
-    }
+    NOWHERE
 }
 
 // The smallest idle piece of exponent n or more in the block of exponent l at a; or the block itself, where it is idle.
-// It stops at the left half where that has a piece of just the right size, or is too small to be part of one.
+// A block without idle leaves, or of nothing else, is told by its count and not halved. The left half is enough where it has a piece of just
+// the right size, or where only the two halves together could be large enough and the left one is not idle.
 fn seek(board: &[u16], c: usize, a: usize, l: usize, n: usize) -> Spot
     requires { ⌜ halving.Block c (length (now board)) a l ⌝ }
     ensures { λ r. ⌜ halving.Spotted c (now (board .entry)) n a l r ⌝ }
 {
     if c <= a {
-        return Spot {
-            exponent: 13,
-            start: 0,
-        };
+        return NOWHERE;
     }
     if l == 0 {
         return seek_leaf(board, c, a);
     }
     let idle = idle_leaves(board, c, a, l);
     if idle == 0 {
-        return Spot {
-            exponent: 13,
-            start: 0,
-        };
+        return NOWHERE;
     }
     if idle == size_of(l) {
         return Spot {
@@ -324,8 +321,7 @@ fn place_power(board: &mut [u16], c: usize, n: usize, name: u16)
     ensures { λ _. ⌜ now (board .exit) ≡ placing.put c (now (board .entry)) name n ⌝ }
 {
     let s = seek(board, c, 0, 12, n);
-    let at = s.start;
-    fill(board, at, size_of(n), name);
+    fill(board, s.start, size_of(n), name);
 }
 
 // Places the power 2^n of a weight, where it has one.
@@ -371,12 +367,11 @@ fn enter(starts: &mut [usize], h: usize, s: usize)
     requires { ⌜ (h < 12) × (length (now starts) ≡ 24) ⌝ }
     ensures { λ _. ⌜ now (starts .exit) ≡ halving.entered (now (starts .entry)) h s ⌝ }
 {
-    let old = starts[h];
-    starts[12 + h] = old;
+    starts[12 + h] = starts[h];
     starts[h] = s;
 }
 
-// The two halves of a block, at a and m, idle or not: one that is idle is a piece, where the block is not idle.
+// Whether a block is idle, by its halves at a and m: one that is idle is a piece, and is entered, where the block is not idle.
 fn meet_idle(f: bool, g: bool, a: usize, m: usize, h: usize, starts: &mut [usize]) -> bool
     requires { ⌜ (h < 12) × (length (now starts) ≡ 24) ⌝ }
     ensures { λ r. ⌜ halving.MetIdle f g a m h (now (starts .entry)) (now (starts .exit)) r ⌝ }
@@ -406,6 +401,7 @@ fn list_leaf(board: &[u16], c: usize, a: usize) -> bool
 }
 
 // Whether a block is idle; the idle pieces inside it are entered, from the highest start to the lowest.
+// A block without idle leaves, or of nothing else, is told by its count and not halved.
 fn list_idle(board: &[u16], c: usize, a: usize, l: usize, starts: &mut [usize]) -> bool
     requires { ⌜ halving.Block c (length (now board)) a l × (length (now starts) ≡ 24) ⌝ }
     ensures { λ r. ⌜ halving.Listed c (now (board .entry)) a l (now (starts .entry)) (now (starts .exit)) r ⌝ }
@@ -445,14 +441,14 @@ fn smallest_pair(starts: &[usize]) -> usize
     12
 }
 
-// Two idle pieces of one size, of the smallest size that has two, and of that size the lowest; an exponent of 12 stands for none.
+// Two idle pieces of one size, by its exponent and their starts; an exponent of 12 stands for none.
 struct Pair {
     exponent: usize,
     first: usize,
     second: usize,
 }
 
-// The pair that tidying takes next, in one pass over the board.
+// The pair that tidying takes next: of the smallest size that has two, the two with the lowest starts. One search lists them.
 fn find_pair(board: &[u16], c: usize) -> Pair
     requires { ⌜ (c ≤ length (now board)) × (c ≤ 4095) ⌝ }
     ensures { λ r. ⌜ halving.Paired c (now (board .entry)) r ⌝ }
@@ -492,8 +488,7 @@ fn copy_run(board: &mut [u16], from: usize, to: usize, size: usize)
 {
     let mut i: usize = 0;
     while i < size {
-        let x = board[from + i];
-        board[to + i] = x;
+        board[to + i] = board[from + i];
         i += 1;
     }
 }
@@ -507,7 +502,7 @@ fn move_run(board: &mut [u16], from: usize, to: usize, size: usize)
     fill(board, from, size, 0);
 }
 
-// Makes room beside the second of a pair, or, where that is a root, beside the first.
+// Joins the second of a pair with its twin, whose leaves move to the first; where the second is a root, the first with its twin.
 fn join_pair(board: &mut [u16], c: usize, e: usize, u: usize, v: usize)
     requires { ⌜ (c ≤ length (now board)) × (c ≤ 4095) × halving.Lowest c (now board) e u v ⌝ }
     ensures { λ _. ⌜ now (board .exit) ≡ tidying.join c (now (board .entry)) e u v ⌝ }

@@ -59,7 +59,7 @@ unfolding rb
 rb-one i = omega arith
 
 -- Reversed twice: the j lowest digits.
-pub rb-twice : (i j : ℕ) → rb (rb i j) j ≡ i % 2 ^ j
+rb-twice : (i j : ℕ) → rb (rb i j) j ≡ i % 2 ^ j
 unfolding rb
 rb-twice i zero = sym (mod-one i)
 rb-twice i (suc j) =

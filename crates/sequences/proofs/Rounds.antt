@@ -21,7 +21,7 @@ use Rattle.sequences.proofs.Stepping.{column-add, column-lt}
 use Rattle.sequences.proofs.Counting.{class, count-same, count-sum, count-none, class-all, spread-times}
 use Rattle.sequences.proofs.Tests.{same-test}
 
--- The positions of one term are a class: those of t + 1 modulo 2 ^ (t + 1).
+-- The positions of one term are a class: those of the term t + 1 are 2 ^ t modulo 2 ^ (t + 1).
 pub term-test : (k p t : ℕ) → zero < p → p < 2 ^ k → t < k → eqb (term k p) (suc t) ≡ class (2 ^ suc t) (2 ^ t) p
 unfolding term
 term-test k p t first last l = same-test _ _ there back

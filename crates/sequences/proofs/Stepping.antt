@@ -15,7 +15,7 @@ use Rattle.sequences.proofs.Reverse.{rb-lt}
 use Rattle.sequences.proofs.Zeros.{zeros-form, zeros-unique, zeros-width}
 use Rattle.sequences.proofs.Places.{digits-pos, digits-width, tree-split, top-bit}
 
--- The code's numbers are small.
+-- A capacity of the code has at most 12 digits.
 pub digits-small : (C : ℕ) → zero < C → C < 4096 → digits C ≤ 12
 digits-small C h l = digits-width C 12 h l
 
@@ -24,7 +24,7 @@ module _ (C p : ℕ) (at : Position C p) where
   unfolding column
   column-add = let f = zeros-form (digits C) p (at .first) (at .last) in omega arith
 
-  pub term-wide : (w : ℕ) → digits C ≤ w → term w p ≡ term (digits C) p
+  term-wide : (w : ℕ) → digits C ≤ w → term w p ≡ term (digits C) p
   unfolding term
   term-wide w l = ap suc (zeros-width (digits C) w p (at .first) (at .last) l)
 
@@ -48,21 +48,21 @@ module _ (C p : ℕ) (at : Position C p) where
   odd-serves o = top-bit C (column C p) (at .some) (odd-column o)
 
   -- The leaf of a position whose column is set is on the board.
-  pub leaf-lt : bit C (column C p) ≡ 1 → leafAt C p < C
+  leaf-lt : bit C (column C p) ≡ 1 → leafAt C p < C
   unfolding leafAt
   leaf-lt b =
       let s = tree-split C (column C p) b in
       let r = rb-lt (p / 2 ^ term (digits C) p) (column C p) in
       omega arith
 
-  -- The same by the code's numbers of 64 digits.
+  -- What the code needs: its numbers have 64 digits, and none of them overflows.
   pub position-small : p < 4096
   position-small = let l : 2 ^ digits C ≤ 2 ^ 12 = pow-mono (digits-small C (at .some) (at .few)) in let g = at .last in omega arith
 
   pub column-small : column C p ≤ 11
   column-small = let l = digits-small C (at .some) (at .few) in let g = column-lt in omega arith
 
-  pub term-64 : term 64 p ≡ term (digits C) p
+  term-64 : term 64 p ≡ term (digits C) p
   term-64 = let l = digits-small C (at .some) (at .few) in term-wide 64 (omega arith)
 
   pub term-small : term 64 p ≤ 12
@@ -117,7 +117,7 @@ pub after-end : (k q : ℕ) → 2 ^ k ≤ suc q → after k q ≡ 1
 after-end k q l = rw (le-ltb (suc q) (2 ^ k) l)
 
 -- It is a position of the round.
-pub after-valid : (C q : ℕ) → Position C q → Position C (after (digits C) q)
+after-valid : (C q : ℕ) → Position C q → Position C (after (digits C) q)
 after-valid C q at = go (decLt (suc q) (2 ^ digits C))
   where
     go : Dec (suc q < 2 ^ digits C) → Position C (after (digits C) q)

@@ -29,7 +29,7 @@ mod-pow-mono n i j h =
     omega arith
 
 -- Trees lie end to end, largest first: tree j ends where the next smaller one starts, or before.
-pub trees-apart : (C i j : ℕ) → i < j → bit C j ≡ 1 → start C j + 2 ^ j ≤ start C i
+trees-apart : (C i j : ℕ) → i < j → bit C j ≡ 1 → start C j + 2 ^ j ≤ start C i
 trees-apart C i j h b =
     let e = tree-split C j b in
     let l : C % 2 ^ suc i ≤ C % 2 ^ j = mod-pow-mono C (suc i) j h in

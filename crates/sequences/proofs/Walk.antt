@@ -37,7 +37,7 @@ unfolding countList
 listed-more f true x m xs e = omega arith
 listed-more f false x m xs e = omega arith
 
-pub listed-count : (C : ℕ) (f : ℕ → Bool) (P T : ℕ) → countList f (leavesIn C P T) ≡ countIn (servesOf C f) P T
+listed-count : (C : ℕ) (f : ℕ → Bool) (P T : ℕ) → countList f (leavesIn C P T) ≡ countIn (servesOf C f) P T
 unfolding leavesIn countIn countList
 listed-count C f P zero = refl
 listed-count C f P (suc T) = listed-more f (serves C P) (leafAt C P) (countIn (servesOf C f) (suc P) T) (leavesIn C (suc P) T) (listed-count C f (suc P) T)
@@ -69,7 +69,7 @@ unfolding servedFrom
 served-next C p = omega arith
 
 -- What is left after one slot.
-pub left-next : (C p : ℕ) → Position C p → left C p ≡ suc (left C (suc (servedFrom C p)))
+left-next : (C p : ℕ) → Position C p → left C p ≡ suc (left C (suc (servedFrom C p)))
 left-next C p at =
     let e = served-next C p in
     let g = served C p at .here .last in

@@ -1,4 +1,5 @@
 -- The slot order of a board with C leaves, from document 01, "Slot order": which term stands at a position, which column it selects, which leaf is served.
+-- That this is the order of G-3's two sequences as lists (specs/Sequences, specs/Scanning): proofs/Laws, `wss-term`, `leaf-literal`, `round-literal`.
 -- Assumes nothing.
 use mathlib.Core.Bool.{cond}
 use Prim.Native.Nat.{ℕ, zero, suc, _+_, _-_, _/_, _%_, _^_, _<_}
@@ -40,7 +41,8 @@ unfoldable pub leafAt : ℕ → ℕ → ℕ
 unfolding column rb
 leafAt C p = start C (column C p) + rb (p / 2 ^ term (digits C) p) (column C p)
 
--- How many terms a slot from p passes over: 1 if the term at p selects a clear column, else 0.
+-- How many terms a slot from p passes over: 1 if the term at p selects a clear column, else 0. They are all the clear terms from p to the one served:
+-- proofs/Laws, `passed-clear`, `served-serves`.
 unfoldable pub passedFrom : ℕ → ℕ → ℕ
 unfolding column
 passedFrom C p = 1 - bit C (column C p)

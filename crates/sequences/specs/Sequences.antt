@@ -21,7 +21,7 @@ unfoldable pub rb : ℕ → ℕ → ℕ
 rb i zero = zero
 rb i (suc j) = i % 2 * 2 ^ j + rb (i / 2) j
 
--- a table whose entry i is RB(i, 11), for each i below 2,048
+-- A table whose entry i is RB(i, 11), for each i below 2,048.
 pub record Reversing (T : List ℕ) : Type 0 where
   pub size : length T ≡ 2048
   pub rule : (i : ℕ) → i < 2048 → getD T i 0 ≡ rb i 11

@@ -1,10 +1,10 @@
 -- `sequences::after` meets its contract.
 -- Assumes nothing.
-use borrow.Author.Needs.{needs}
 use mathlib.Core.Path.{sym}
 use Prim.Native.Nat.{_+_, _^_, _≤_, _<_}
 use native.Mathlib.Omega.{arith}
 use lib.Pow.{pow-mono}
+use borrow.Author.Needs.{needs}
 use Rattle.sequences.proofs.Places.{shift-exact}
 use Rattle.sequences.proofs.Stepping.{after-more, after-end}
 use Rattle.sequences.proofs.after.Statement.{statement}

@@ -1,10 +1,10 @@
 -- `sequences::leaf` meets its contract.
 -- Assumes nothing.
-use borrow.Author.Needs.{needs}
 use mathlib.Core.Path.{_≡_}
 use Prim.Native.Nat.{_+_}
-use Rattle.sequences.specs.Board.{leafAt}
 use native.Mathlib.Omega.{arith}
+use borrow.Author.Needs.{needs}
+use Rattle.sequences.specs.Board.{leafAt}
 use Rattle.sequences.proofs.Stepping.{column-small, term-small, index-small, leaf-64, leaf-small}
 use Rattle.sequences.proofs.leaf.Statement.{statement}
 use Rattle.sequences.proofs.leaf.Tie as tie

@@ -1,9 +1,9 @@
 -- `sequences::pick_by` meets its contract.
 -- Assumes nothing.
-use borrow.Author.Needs.{needs}
-use native.Mathlib.Omega.{arith}
 use mathlib.Core.Path.{_≡_, ap, ap₂, _∙_}
 use Prim.Native.Nat.{ℕ, _+_, _-_}
+use native.Mathlib.Omega.{arith}
+use borrow.Author.Needs.{needs}
 use Rattle.sequences.specs.Board.{leafAt, passedFrom, servedFrom, after, nextFrom}
 use Rattle.sequences.specs.declared.Slot.{Slot}
 use Rattle.sequences.proofs.Stepping.{column-small, position-small, served, digits-small}

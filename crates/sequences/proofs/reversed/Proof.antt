@@ -1,9 +1,9 @@
 -- `sequences::reversed` meets its contract.
 -- Assumes nothing.
-use borrow.Author.Needs.{needs}
-use native.Mathlib.Omega.{arith}
 use mathlib.Core.Path.{ap, _∙_}
 use Prim.Native.Nat.{ℕ, _-_, _/_, _^_}
+use native.Mathlib.Omega.{arith}
+use borrow.Author.Needs.{needs}
 use Rattle.sequences.proofs.Reverse.{rb-from}
 use Rattle.sequences.proofs.reversed.Statement.{statement}
 use Rattle.sequences.proofs.reversed.Tie as tie

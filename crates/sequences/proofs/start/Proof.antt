@@ -1,11 +1,11 @@
 -- `sequences::start` meets its contract.
 -- Assumes nothing.
-use borrow.Author.Needs.{needs}
 use mathlib.Core.Path.{_≡_, ap, _∙_}
 use Prim.Native.Nat.{ℕ, suc, _-_, _*_, _%_, _^_, _<_}
 use native.Mathlib.Nat.{mod-le}
 use native.Mathlib.Omega.{arith}
 use lib.Pow.{pow-pos, shl-exact}
+use borrow.Author.Needs.{needs}
 use Rattle.sequences.proofs.start.Statement.{statement}
 use Rattle.sequences.proofs.start.Tie as tie
 

@@ -1,7 +1,7 @@
 -- `sequences::table::time_slots` meets its contract. antt computes the time-slot sequence of order 11 and compares the table with it; one test over all of it shows the reversal rule.
 -- Assumes nothing.
-use Prim.Native.Nat.{ℕ}
 use mathlib.Core.Path.{refl}
+use Prim.Native.Nat.{ℕ}
 use Rattle.sequences.specs.Sequences.{tss, rb}
 use Rattle.sequences.proofs.Tabled.{follows, tabled}
 use Rattle.sequences.proofs.table.time_slots.Statement.{statement}
