@@ -28,7 +28,7 @@ struct call {
 };
 _Static_assert(sizeof(struct call) == 14, "a call is seven 16-bit numbers");
 
-static void end(const char *why)
+static _Noreturn void end(const char *why)
 {
     fprintf(stderr, "serve: %s\n", why);
     exit(1);
@@ -78,7 +78,6 @@ static mandrozsi_reply make(const struct call *c, uint16_t *board, uint8_t *othe
     case READ: return mandrozsi_read(other, length, board, entries);
     }
     end("there is no such call");
-    abort();
 }
 
 int main(void)

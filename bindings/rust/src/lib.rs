@@ -29,7 +29,7 @@ pub struct Drive {
     pub position: u16,
 }
 
-/// Why a call is refused, with the number that the C header and the sheets' checkers use.
+/// Why a call is refused, with the number that document 01 and the C header give it.
 #[repr(u16)]
 #[derive(Clone, Copy, Debug, PartialEq, Eq, Hash, PartialOrd, Ord)]
 pub enum Refusal {
@@ -128,9 +128,9 @@ pub struct Stream {
 impl Reply {
     /// The reply itself where the call was done, or why it was refused.
     pub fn done(self) -> Result<Reply, Refusal> {
-        match Refusal::from_number(self.number) {
-            None => Ok(self),
-            Some(why) => Err(why),
+        match self.number {
+            0 => Ok(self),
+            number => Err(Refusal::from_number(number).expect("the library's numbers are 0 to 12")),
         }
     }
 }
@@ -143,26 +143,26 @@ impl Drive {
     /// The leaves of a sheet's block.
     pub const LEAVES_PER_BLOCK: usize = 253;
 
-    /// Makes the first `capacity` entries of a board idle: a record at the start of a round.
+    /// Makes the first `capacity` entries of a board idle: a record at the start of a round. Refused: 1, 2.
     pub fn open(capacity: u16, board: &mut [u16]) -> Result<Drive, Refusal> {
         // SAFETY: pointer and length are of one slice, lent for the call alone. So below.
         let reply = unsafe { raw::mandrozsi_open(capacity, board.as_mut_ptr(), board.len()) };
         Ok(reply.done()?.drive)
     }
 
-    /// Admits a stream: the idle leaves left.
+    /// Admits a stream: the idle leaves left. Refused: 1 to 8, 10.
     pub fn add(self, board: &mut [u16], name: u16, weight: u16) -> Result<u16, Refusal> {
         let reply = unsafe { raw::mandrozsi_add(self, board.as_mut_ptr(), board.len(), name, weight) };
         Ok(reply.done()?.first)
     }
 
-    /// Removes a stream and tidies the board: the idle leaves left.
+    /// Removes a stream and tidies the board: the idle leaves left. Refused: 1 to 6, 9.
     pub fn remove(self, board: &mut [u16], name: u16) -> Result<u16, Refusal> {
         let reply = unsafe { raw::mandrozsi_remove(self, board.as_mut_ptr(), board.len(), name) };
         Ok(reply.done()?.first)
     }
 
-    /// Serves the slot at the position, and moves the record on. Any board will do, good or not.
+    /// Serves the slot at the position, and moves the record on. Any board will do, good or not. Refused: 1 to 3.
     pub fn slot(&mut self, board: &[u16]) -> Result<Slot, Refusal> {
         let reply = unsafe { raw::mandrozsi_slot(*self, board.as_ptr(), board.len()) };
         let Reply {
@@ -176,13 +176,13 @@ impl Drive {
         })
     }
 
-    /// Writes the C names of a full round from p = 1 to the start of the output and nothing beyond them.
+    /// Writes the C names of a full round from p = 1 to the start of the output and nothing beyond them. Refused: 1 to 3, 11.
     pub fn round(self, board: &[u16], output: &mut [u16]) -> Result<(), Refusal> {
         let reply = unsafe { raw::mandrozsi_round(self, board.as_ptr(), board.len(), output.as_mut_ptr(), output.len()) };
         reply.done().map(|_| ())
     }
 
-    /// Reports on a stream.
+    /// Reports on a stream. Refused: 1 to 3, 5, 6, 9.
     pub fn report(self, board: &[u16], name: u16) -> Result<Stream, Refusal> {
         let reply = unsafe { raw::mandrozsi_report(self, board.as_ptr(), board.len(), name) }.done()?;
         Ok(Stream {
@@ -192,13 +192,13 @@ impl Drive {
         })
     }
 
-    /// Writes the board's sheet to the start of the output: the bytes written.
+    /// Writes the board's sheet to the start of the output and nothing beyond it: the bytes written. Refused: 1 to 5, 11.
     pub fn save(self, board: &[u16], output: &mut [u8]) -> Result<usize, Refusal> {
         let reply = unsafe { raw::mandrozsi_save(self, board.as_ptr(), board.len(), output.as_mut_ptr(), output.len()) };
         Ok(usize::from(reply.done()?.first))
     }
 
-    /// Sets the leaves of a board to those of a sheet: a record at the start of a round.
+    /// Sets the leaves of a board to those of a sheet: a record at the start of a round. Refused: 12 (under 512 bytes), 1, 2, 12, 5, in this order.
     pub fn read(sheet: &[u8], board: &mut [u16]) -> Result<Drive, Refusal> {
         let reply = unsafe { raw::mandrozsi_read(sheet.as_ptr(), sheet.len(), board.as_mut_ptr(), board.len()) };
         Ok(reply.done()?.drive)

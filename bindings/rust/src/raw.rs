@@ -1,4 +1,5 @@
-//! The boundary as it stands: the functions of the static library. A slice is a pointer that is never null, and then a length.
+//! The boundary as it stands: the functions of the static library. A slice is a pointer that is never null, and then a length; two slices of one
+//! call do not overlap.
 use crate::Drive;
 
 /// What every function answers: the record, the number (0 for done), and the values; a value that an answer does not have is 0.

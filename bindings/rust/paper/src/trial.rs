@@ -197,6 +197,26 @@ impl<'a, C: Calls> Trial<'a, C> {
         }
     }
 
+    /// Two runs of each size, idle or of one name, among leaves with names of their own: a damaged board, or a good one that is tidied at that size.
+    pub fn two_runs(&mut self) {
+        let mut random = Random::new(0);
+        for size in (0..11).map(|l| 1 << l) {
+            for _ in 0..40 {
+                let c = 2 * size + random.below(4096 - 2 * size);
+                let mut board: Vec<u16> = (1..=c as u16).collect();
+                for _ in 0..2 {
+                    let start = random.below(c / size) * size;
+                    board[start..start + size].fill(random.pick(&[0, 7000]));
+                }
+                let record = (c as u16, 1);
+                self.add(record, &mut board.clone(), 9000, size as u16);
+                self.remove(record, &mut board.clone(), 7000);
+                self.report(record, &board, 7000);
+                self.save(record, &board, &mut [0; 17 * 512]);
+            }
+        }
+    }
+
     /// One board from its opening through many changes, with wrong calls between them.
     pub fn churn(&mut self, seed: u64) {
         let mut random = Random::new(seed);
@@ -204,7 +224,7 @@ impl<'a, C: Calls> Trial<'a, C> {
         let mut board: Vec<u16> = (0..usize::from(c) + random.below(4)).map(|_| random.draw() as u16).collect();
         let mut record = self.open(c, &mut board).record;
         let mut names: Vec<u16> = Vec::new();
-        let largest = random.pick(&[1, 1, 2, 3, 5, 16, 200]).min(usize::from(c));
+        let largest = random.pick(&[1, 1, 2, 3, 5, 16, 200, 2000]).min(usize::from(c));
         for _ in 0..if c < 300 { 160 } else { 40 } {
             if record.1 != 1 && random.one_in(3) {
                 record.1 = 1;
@@ -387,6 +407,7 @@ pub fn compare(calls: &impl Calls, seeds: u64) -> usize {
     let mut trial = Trial::new(calls);
     trial.orders();
     trial.small_boards();
+    trial.two_runs();
     for seed in 0..seeds {
         trial.churn(seed);
     }
