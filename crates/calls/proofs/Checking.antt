@@ -8,7 +8,7 @@ use native.Mathlib.Omega.{arith}
 use lib.Dec.{eqb, ltb}
 use lib.ListN.{length, getD}
 use lib.Pow.{pow-pos}
-use borrow.Author.Tests.{eqb-true, eqb-false, ltb-false, not-false}
+use borrow.Author.Tests.{eqb-true, eqb-false, ne-eqb, ltb-false, le-ltb, not-false}
 use Rattle.sequences.specs.Board as sequences
 use Rattle.sequences.proofs.Laws.{digits-small, shift-exact}
 use Rattle.pieces.specs.Board.{bit, good, weight}
@@ -127,6 +127,12 @@ open-clear C B e =
     let g = neither (eqb C 0) (ltb 4095 C) (f .0) in
     let n = eqb-false C 0 (g .0) in
     record { some = omega arith; few = ltb-false 4095 C (g .1); long = ltb-false (length B) C (f .1 .0) }
+
+pub open-sized : (C : ℕ) (B : List ℕ) → Sized C B → openCheck C B ≡ Clear
+unfolding openCheck
+open-sized C B s =
+    let nonzero : C ≡ 0 → ⊥ = λ e. omega (arith, s .some) in
+    rw (ne-eqb C 0 nonzero, le-ltb 4095 C (s .few), le-ltb (length B) C (s .long))
 
 module _ (d : Drive) (B : List ℕ) where
   pub slot-sized : slotCheck d B ≡ Clear → Sized (d .capacity) B

@@ -2,7 +2,7 @@
 -- was; a call answers only what it may; a round tells the whole board.
 -- Assumes nothing.
 use mathlib.Core.Path.{_≡_, refl, sym, ap, _∙_}
-use mathlib.Core.Bool.{Bool, true, false, _&&_, _||_, or-true}
+use mathlib.Core.Bool.{Bool, true, false, _&&_, or-true}
 use mathlib.Core.List.{List, [], _∷_, _++_, map}
 use Prim.Native.Nat.{ℕ, zero, suc, _≤_, _<_}
 use native.Mathlib.Decide.{decLt}
@@ -27,14 +27,14 @@ use Rattle.calls.specs.declared.Served.{Served}
 use Rattle.calls.specs.declared.Rounded.{Rounded}
 use Rattle.calls.specs.declared.Reported.{Reported}
 use Rattle.calls.specs.Records.{driveAt}
-use Rattle.calls.specs.Refusals.{Asked, numberOf, applies, firstOf, openMay, addMay, removeMay, slotMay, roundMay, reportMay, askedOpen, askedAdd, askedName, asked, askedOutput, openCheck, addCheck, removeCheck, slotCheck, roundCheck, reportCheck}
+use Rattle.calls.specs.Refusals.{Asked, numberOf, applies, firstOf, among, openMay, addMay, removeMay, slotMay, roundMay, reportMay, askedOpen, askedAdd, askedName, asked, askedOutput, openCheck, addCheck, removeCheck, slotCheck, roundCheck, reportCheck}
 use Rattle.calls.specs.Answers.{Answer, answered, openingAnswer, changeAnswer, servingAnswer, roundingAnswer, reportAnswer}
 use Rattle.calls.specs.Results.{ifClear, idleBoard, addedIdle, addedBoard, removedIdle, removedBoard, servedName, servedLeaf, servedPassed, movedOn, slotNames, roundNames, reportedSpacing}
 use Rattle.calls.proofs.Checking.{by-bool, add-clear, add-weight, remove-clear, remove-held}
 use Rattle.calls.specs.Promises.{Opens, Adds, Removes, Serves, Rounds, Reports}
 -- ---- what is known once the checks of a call are clear
 
-pub use Rattle.calls.proofs.Checking.{Sized, first-next, first-clear, then-clear, open-clear, slot-sized, slot-parts, change-parts, slot-position, change-slot, change-start, change-good, add-change, add-weight, add-clear, remove-change, remove-held, remove-clear, round-slot, round-room, report-slot, report-good, report-held}
+pub use Rattle.calls.proofs.Checking.{Sized, first-next, first-clear, then-clear, open-clear, open-sized, slot-sized, slot-parts, change-parts, slot-position, change-slot, change-start, change-good, add-change, add-weight, add-clear, remove-change, remove-held, remove-clear, round-slot, round-room, report-slot, report-good, report-held}
 
 -- ---- what holds of every call
 
@@ -46,21 +46,16 @@ abbrev pub Refuses : Answer → Type 0
 Refuses a = a .number ≡ 0 → ⊥
 
 -- what is left as it was, and zeros for values
-kept : {A : Type 0} (k : Check) (vs : List ℕ) (done was : A) → Refuses (answered k vs) → ifClear k done was ≡ was
+pub kept : {A : Type 0} (k : Check) (vs : List ℕ) (done was : A) → Refuses (answered k vs) → ifClear k done was ≡ was
 kept Clear vs done was h = absurd (h refl)
 kept (Refused r) vs done was h = refl
 
-zeros : (k : Check) (vs : List ℕ) → Refuses (answered k vs) → answered k vs .values ≡ map (λ v. 0) vs
+pub zeros : (k : Check) (vs : List ℕ) → Refuses (answered k vs) → answered k vs .values ≡ map (λ v. 0) vs
 zeros Clear vs h = absurd (h refl)
 zeros (Refused r) vs h = refl
 
-refuses : {a b : Answer} → a ≡ b → Refuses a → Refuses b
+pub refuses : {a b : Answer} → a ≡ b → Refuses a → Refuses b
 refuses e h z = h (ap (λ (a : Answer). a .number) e ∙ z)
-
--- n is 0 or the number of a refusal of the list
-unfoldable pub among : ℕ → List Refusal → Bool
-among n [] = eqb n 0
-among n (r ∷ rs) = eqb n (numberOf r) || among n rs
 
 first-among : (rs : List Refusal) (a : Asked) (vs : List ℕ) → among (answered (firstOf rs a) vs .number) rs ≡ true
 unfolding firstOf among
@@ -69,7 +64,7 @@ first-among (r ∷ rs) a vs = by-bool (applies r a)
     (λ t. rw (t, eq-eqb (numberOf r) (numberOf r) refl))
     (λ f. rw (f, first-among rs a vs) (or-true (eqb (answered (firstOf rs a) vs .number) (numberOf r))))
 
-may : (rs : List Refusal) (a : Asked) (vs : List ℕ) {b : Answer} → b ≡ answered (firstOf rs a) vs → among (b .number) rs ≡ true
+pub may : (rs : List Refusal) (a : Asked) (vs : List ℕ) {b : Answer} → b ≡ answered (firstOf rs a) vs → among (b .number) rs ≡ true
 may rs a vs e = ap (λ (b : Answer). among (b .number) rs) e ∙ first-among rs a vs
 
 -- ---- "the lowest number that applies is answered"

@@ -56,6 +56,7 @@ applies Room a = ltb (pieces.weight (a .capacity) (a .board) 0) (a .weight)
 applies Output a = ltb (a .output) (a .needed)
 applies Block a = a .broken
 
+-- A refusal where its test holds, and else what the others find.
 abbrev pub refuseIf : Bool → Refusal → Check → Check
 refuseIf true r others = Refused r
 refuseIf false r others = others
@@ -71,6 +72,11 @@ abbrev pub andThen : Check → Check → Check
 andThen Clear later = later
 andThen (Refused r) later = Refused r
 
+-- n is 0, or the number of a refusal of the list.
+unfoldable pub among : ℕ → List Refusal → Bool
+among n [] = eqb n 0
+among n (r ∷ rs) = eqb n (numberOf r) || among n rs
+
 -- What each call may answer, in its order.
 abbrev pub openMay : List Refusal
 openMay = Capacity ∷ Short ∷ []
@@ -84,15 +90,15 @@ removeMay = Capacity ∷ Short ∷ Position ∷ Midround ∷ Damaged ∷ Name �
 abbrev pub slotMay : List Refusal
 slotMay = Capacity ∷ Short ∷ Position ∷ []
 
--- What add, remove and save have in common.
-abbrev pub changeMay : List Refusal
-changeMay = Capacity ∷ Short ∷ Position ∷ Midround ∷ Damaged ∷ []
-
 abbrev pub roundMay : List Refusal
 roundMay = Capacity ∷ Short ∷ Position ∷ Output ∷ []
 
 abbrev pub reportMay : List Refusal
 reportMay = Capacity ∷ Short ∷ Position ∷ Damaged ∷ Name ∷ Absent ∷ []
+
+-- What add, remove and save have in common.
+abbrev pub changeMay : List Refusal
+changeMay = Capacity ∷ Short ∷ Position ∷ Midround ∷ Damaged ∷ []
 
 -- What each call was given. Open has no record to start from: its capacity is the one asked for, and its position the one it would set.
 abbrev pub given : Drive → List ℕ → ℕ → ℕ → ℕ → ℕ → Asked
@@ -131,10 +137,6 @@ unfoldable pub slotCheck : Drive → List ℕ → Check
 unfolding firstOf
 slotCheck d B = firstOf slotMay (asked d B)
 
-unfoldable pub changeCheck : Drive → List ℕ → Check
-unfolding firstOf
-changeCheck d B = firstOf changeMay (asked d B)
-
 unfoldable pub roundCheck : Drive → List ℕ → ℕ → Check
 unfolding firstOf
 roundCheck d B n = firstOf roundMay (askedOutput d B n (d .capacity))
@@ -143,7 +145,11 @@ unfoldable pub reportCheck : Drive → List ℕ → ℕ → Check
 unfolding firstOf
 reportCheck d B x = firstOf reportMay (askedName d B x)
 
--- What the parts of these checks find, of a capacity and a board alone.
+-- What the parts of these checks find: first what add, remove and save have in common, then parts of a capacity and a board alone.
+unfoldable pub changeCheck : Drive → List ℕ → Check
+unfolding firstOf
+changeCheck d B = firstOf changeMay (asked d B)
+
 unfoldable pub positionCheck : ℕ → ℕ → Check
 unfolding firstOf
 positionCheck C p = firstOf (Position ∷ []) (asked (driveAt C p) [])

@@ -64,6 +64,7 @@ opened C B = record { drive = ifClear (openCheck C B) (driveAt C 1) (driveAt 0 0
 abbrev pub openedAnswer : ℕ → List ℕ → Answer
 openedAnswer C B = answered (openCheck C B) []
 
+-- C idle leaves; the entries beyond are as they were.
 unfoldable pub idleBoard : ℕ → List ℕ → List ℕ
 idleBoard C B = replicate C 0 ++ drop C B
 

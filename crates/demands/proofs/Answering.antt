@@ -11,11 +11,12 @@ use Rattle.calls.specs.declared.Refusal.{Refusal}
 use Rattle.calls.specs.declared.Refusal.the-variants.{Damaged, Room}
 use Rattle.calls.specs.declared.Check.{Check}
 use Rattle.calls.specs.declared.Check.the-variants.{Clear, Refused}
-use Rattle.calls.specs.Refusals.{Asked, applies, firstOf, refuseIf, numberOf}
+use Rattle.calls.specs.Refusals.{Asked, applies, firstOf, refuseIf, numberOf, among}
 use Rattle.calls.specs.Answers.{answered}
 use Rattle.calls.specs.Results.{ifClear}
-use Rattle.demands.specs.Refusing.{answers, zeros}
-use Rattle.demands.proofs.Checks.{number-some, number-tells, clash, first-applies, first-listed}
+use Rattle.calls.proofs.Laws.{may}
+use Rattle.demands.specs.Refusing.{zeros}
+use Rattle.demands.proofs.Checks.{number-some, number-tells, clash, first-applies}
 
 zeros-again : (vs : List ℕ) → zeros vs ≡ zeros (zeros vs)
 zeros-again [] = refl
@@ -24,14 +25,13 @@ zeros-again (v ∷ vs) = ap (λ (l : List ℕ). 0 ∷ l) (zeros-again vs)
 module _ (rs : List Refusal) (q : Asked) (vs : List ℕ) where
   -- 0 or a number of the list; and, refused, zeros and what holds of each refusal
   pub by-first : (K L : Check → Type 0) → ((r : Refusal) → K (Refused r)) → ((r : Refusal) → L (Refused r))
-      → (answers rs (answered (firstOf rs q) vs .number) ≡ true)
+      → (among (answered (firstOf rs q) vs .number) rs ≡ true)
       × ((answered (firstOf rs q) vs .number ≡ 0 → ⊥) → K (firstOf rs q) × L (firstOf rs q) × (answered (firstOf rs q) vs .values ≡ zeros (answered (firstOf rs q) vs .values)))
-  by-first K L k l = go (firstOf rs q) refl
+  by-first K L k l = (may rs q vs refl, go (firstOf rs q))
     where
-      go : (c : Check) → firstOf rs q ≡ c
-          → (answers rs (answered c vs .number) ≡ true) × ((answered c vs .number ≡ 0 → ⊥) → K c × L c × (answered c vs .values ≡ zeros (answered c vs .values)))
-      go Clear e = (refl, λ n. absurd (n refl))
-      go (Refused r) e = (rw (number-some r) (first-listed q rs r e), λ n. (k r, l r, zeros-again vs))
+      go : (c : Check) → (answered c vs .number ≡ 0 → ⊥) → K c × L c × (answered c vs .values ≡ zeros (answered c vs .values))
+      go Clear n = absurd (n refl)
+      go (Refused r) n = (k r, l r, zeros-again vs)
 
   -- DAMAGED only if that applies
   pub undamaged : applies Damaged q ≡ false → answered (firstOf rs q) vs .number ≡ 5 → ⊥

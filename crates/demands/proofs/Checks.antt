@@ -1,20 +1,19 @@
 -- The checks before a call: what it means that none of a list of refusals applies, and that one is the first.
 -- Assumes nothing.
 use mathlib.Core.Path.{_≡_, refl, sym, ap, _∙_}
-use mathlib.Core.Bool.{Bool, true, false, _||_, or-true}
+use mathlib.Core.Bool.{Bool, true, false}
 use mathlib.Core.List.{List, [], _∷_, _++_}
 use Prim.Native.Nat.{ℕ}
 use native.Mathlib.Omega.{arith}
 use lib.Dec.{eqb}
 use lib.ListN.{getD}
-use borrow.Author.Tests.{eqb-true, eq-eqb}
 use Rattle.sequences.specs.Serving.{one}
 use Rattle.calls.specs.declared.Refusal.{Refusal}
 use Rattle.calls.specs.declared.Refusal.the-variants.{Capacity, Short, Position, Midround, Damaged, Name, Weight, Taken, Absent, Room, Output, Block}
 use Rattle.calls.specs.declared.Check.{Check}
 use Rattle.calls.specs.declared.Check.the-variants.{Clear, Refused}
 use Rattle.calls.specs.Refusals.{Asked, applies, firstOf, refuseIf, numberOf}
-use Rattle.demands.specs.Refusing.{listed}
+use Rattle.calls.proofs.Laws.{first-next}
 
 -- the refusal of a number of the table
 refusalOf : ℕ → Refusal
@@ -46,10 +45,6 @@ number-tells r q e = sym (numbered r .0) ∙ ap refusalOf e ∙ numbered q .0
 pub clash : {P : Type 0} {b : Bool} → b ≡ true → b ≡ false → P
 clash p q = absurd (let e : _≡_ {A = ℕ} 1 0 = ap one (sym p ∙ q) in omega arith)
 
-pub either-false : (a b : Bool) → (a || b) ≡ false → (a ≡ false) × (b ≡ false)
-either-false true b e = clash refl e
-either-false false b e = (refl, e)
-
 -- 0 for no refusal
 abbrev code : Check → ℕ
 code Clear = 0
@@ -68,24 +63,6 @@ module _ (a : Asked) where
   unfolding firstOf
   none-applies r rs f e = rw f e
 
-  first-clear : (r : Refusal) (rs : List Refusal) → firstOf (r ∷ rs) a ≡ Clear → (applies r a ≡ false) × (firstOf rs a ≡ Clear)
-  unfolding firstOf
-  first-clear r rs e = go (applies r a) refl e
-    where
-      go : (b : Bool) → applies r a ≡ b → refuseIf b r (firstOf rs a) ≡ Clear → (applies r a ≡ false) × (firstOf rs a ≡ Clear)
-      go true f e = apart e refl
-      go false f e = (f, e)
-
-  -- where none applies, no one of the list does
-  pub clear-of : (rs : List Refusal) → firstOf rs a ≡ Clear → (r : Refusal) → listed rs (numberOf r) ≡ true → applies r a ≡ false
-  unfolding listed
-  clear-of [] e r l = clash l refl
-  clear-of (q ∷ rs) e r l = let c = first-clear q rs e in go (eqb (numberOf r) (numberOf q)) refl l (c .0) (clear-of rs (c .1) r)
-    where
-      go : (b : Bool) → eqb (numberOf r) (numberOf q) ≡ b → (b || listed rs (numberOf r)) ≡ true → applies q a ≡ false → (listed rs (numberOf r) ≡ true → applies r a ≡ false) → applies r a ≡ false
-      go true f l here ih = rw (number-tells r q (eqb-true (numberOf r) (numberOf q) f)) here
-      go false f l here ih = ih l
-
   pub first-applies : (rs : List Refusal) (r : Refusal) → firstOf rs a ≡ Refused r → applies r a ≡ true
   unfolding firstOf
   first-applies [] r e = apart refl e
@@ -96,16 +73,4 @@ module _ (a : Asked) where
       go false f e ih = ih e
 
   pub first-after : (rs qs : List Refusal) → firstOf rs a ≡ Clear → firstOf (rs ++ qs) a ≡ firstOf qs a
-  unfolding firstOf
-  first-after [] qs e = refl
-  first-after (r ∷ rs) qs e = let c = first-clear r rs e in rw (c .0) (first-after rs qs (c .1))
-
-  -- the first that applies is of the list
-  pub first-listed : (rs : List Refusal) (r : Refusal) → firstOf rs a ≡ Refused r → listed rs (numberOf r) ≡ true
-  unfolding firstOf listed
-  first-listed [] r e = apart refl e
-  first-listed (q ∷ rs) r e = go (applies q a) e (first-listed rs r)
-    where
-      go : (b : Bool) → refuseIf b q (firstOf rs a) ≡ Refused r → (firstOf rs a ≡ Refused r → listed rs (numberOf r) ≡ true) → (eqb (numberOf r) (numberOf q) || listed rs (numberOf r)) ≡ true
-      go true e ih = let g : numberOf r ≡ numberOf q = ap (λ (c : Check). numberOf (which q c)) (sym e) in rw (eq-eqb (numberOf r) (numberOf q) g) refl
-      go false e ih = rw (ih e) (or-true (eqb (numberOf r) (numberOf q)))
+  first-after rs qs e = first-next rs qs a ∙ rw e refl

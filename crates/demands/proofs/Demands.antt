@@ -1,15 +1,18 @@
--- The demands, each by its name: demand 1 and the slot order of demand 2 for every call and every input, demand 3 for every history from an opened board.
+-- The demands, each by its name: demand 1, and the board and the slot order of demand 2, for every call and every input; demand 3 for every history from an
+-- opened board. What they ask of save and read stands in `sheets`, proofs/Laws.
 -- Assumes nothing.
-use mathlib.Core.Path.{_≡_, refl, sym, ap, _∙_}
+use mathlib.Core.Path.{_≡_, refl, sym, ap, ap₂, _∙_}
 use mathlib.Core.Bool.{true, cond}
 use mathlib.Core.List.{List, [], _∷_, _++_}
 use Prim.Native.Nat.{ℕ, zero, _+_, _-_, _*_, _≤_, _<_}
 use native.Mathlib.Omega.{arith}
 use lib.Count.{ones}
 use lib.Dec.{ltb}
-use lib.ListN.{length, drop}
+use lib.ListN.{length, drop, replicate}
+use Rattle.sequences.specs.Serving.{afterSlots}
 use Rattle.sequences.specs.Scanning.{roundLeaves}
-use Rattle.sequences.proofs.Laws.{round-literal}
+use Rattle.sequences.specs.Board.{passedFrom, servedFrom, nextFrom}
+use Rattle.sequences.proofs.Laws.{passed-one, passed-clear, served-position, served-serves, leaf-literal, round-ends, round-literal}
 use Rattle.pieces.specs.Board.{weight, number}
 use Rattle.pieces.specs.Placing.{placed}
 use Rattle.pieces.specs.Tidying.{removed}
@@ -17,24 +20,25 @@ use Rattle.pieces.proofs.Laws.{pieces-ones}
 use Rattle.calls.specs.declared.Drive.{Drive}
 use Rattle.calls.specs.declared.Check.the-variants.{Clear}
 use Rattle.calls.specs.Records.{driveAt}
-use Rattle.calls.specs.Refusals.{firstOf, asked, askedAdd, askedName, askedOutput, askedOpen, openMay, addMay, removeMay, slotMay, roundMay, reportMay, openCheck, addCheck, removeCheck, slotCheck, roundCheck, reportCheck}
+use Rattle.calls.specs.Refusals.{firstOf, among, asked, askedAdd, askedName, askedOutput, askedOpen, openMay, addMay, removeMay, slotMay, roundMay, reportMay, openCheck, addCheck, removeCheck, slotCheck, roundCheck, reportCheck}
 use Rattle.calls.specs.Results.{ifClear, openedAnswer, idleBoard, addedIdle, removedIdle, servedName, servedLeaf, servedPassed, movedOn, slotNames, roundNames, reportedSpacing}
-use Rattle.demands.specs.Histories.{Act, Add, Remove, Slot, Round, Report, State, Openable, does, says, opens, reach}
-use Rattle.demands.specs.Refusing.{mayAnswer, answers, lent, writes, zeros, otherChecks}
+use Rattle.calls.proofs.Laws.{open-clear, slot-position}
+use Rattle.demands.specs.Histories.{Act, Add, Remove, Slot, Round, Report, State, Openable, does, says, opens, after, reach}
+use Rattle.demands.specs.Refusing.{mayAnswer, lent, writes, zeros, otherChecks}
 use Rattle.demands.specs.Holdings.{isChange, held, heldOf, total}
-use Rattle.demands.specs.Rounds.{namesFrom, FullRound, inARow, times, namesOn, Near, bound, demanded}
+use Rattle.demands.specs.Rounds.{namesFrom, FullRound, InTurn, inARow, times, namesOn, Near, bound, demanded}
 use Rattle.demands.proofs.Checks.{clash}
 use Rattle.demands.proofs.Answering.{by-first, clear-number, done-idle}
 use Rattle.demands.proofs.Valid.{Valid, stateAt, slot-clear, clear-valid}
-use Rattle.demands.proofs.Reached.{Reached, after-one, always}
-use Rattle.demands.proofs.Rows.{full-names}
+use Rattle.demands.proofs.Reached.{Reached, after-one, opened-clear, always}
+use Rattle.demands.proofs.Rows.{full-names, moves, slots-full}
 use Rattle.demands.proofs.Standing.{never-damaged, midround, others-pass, room, served-round, served-fair}
 
 -- ---- Demand 1
 
 -- Every call answers 0 or a number of its list. Refused, it gives back the record, the board and the output as they were, and zeros for values.
 pub demand-1 : (a : Act) (s : State)
-    → (answers (mayAnswer a) (says a s .number) ≡ true)
+    → (among (says a s .number) (mayAnswer a) ≡ true)
     × ((says a s .number ≡ 0 → ⊥) → (does a s ≡ s) × (writes a s ≡ lent a) × (says a s .values ≡ zeros (says a s .values)))
 unfolding addCheck removeCheck slotCheck roundCheck reportCheck
 demand-1 (Add x w) s =
@@ -63,14 +67,49 @@ demand-1 (Report x) s =
 
 -- So does open; refused, it gives a record with C and p zero, and the board as it was.
 pub demand-1-open : (C : ℕ) (B : List ℕ)
-    → (answers openMay (openedAnswer C B .number) ≡ true) × ((openedAnswer C B .number ≡ 0 → ⊥) → opens C B ≡ record { drive = driveAt 0 0; board = B })
+    → (among (openedAnswer C B .number) openMay ≡ true) × ((openedAnswer C B .number ≡ 0 → ⊥) → opens C B ≡ record { drive = driveAt 0 0; board = B })
 unfolding openCheck
 demand-1-open C B =
     let done = idleBoard C B in
     let t = by-first openMay (askedOpen C B) [] (λ c. record { drive = ifClear c (driveAt C 1) (driveAt 0 0); board = ifClear c done B } ≡ stateAt 0 0 B) (λ c. C ≡ C) (λ r. refl) (λ r. refl) in
     (t .0, λ n. t .1 n .0)
 
+-- ---- Demand 2, the board
+
+-- An add that is done leaves the board that the placing rule gives, the record as it was,
+pub demand-2-add : (x w : ℕ) (s : State) → says (Add x w) s .number ≡ 0 → does (Add x w) s ≡ record { drive = s .drive; board = placed (s .drive .capacity) (s .board) x w }
+demand-2-add x w s done =
+    let d = s .drive in
+    let B = s .board in
+    rw (clear-number (addCheck d B x w) (addedIdle d B x w ∷ []) done) refl
+
+-- and a remove that is done the board that the tidying rule gives once the name's leaves are idle.
+pub demand-2-remove : (x : ℕ) (s : State) → says (Remove x) s .number ≡ 0 → does (Remove x) s ≡ record { drive = s .drive; board = removed (s .drive .capacity) (s .board) x }
+demand-2-remove x s done =
+    let d = s .drive in
+    let B = s .board in
+    rw (clear-number (removeCheck d B x) (removedIdle d B x ∷ []) done) refl
+
 -- ---- Demand 2, the slot order
+
+-- On any board, good or not, and at any position: a slot that is not refused is in its turn.
+pub demand-2-slot : (s : State) → says Slot s .number ≡ 0 → InTurn s
+unfolding nextFrom
+demand-2-slot s clear =
+    let d = s .drive in
+    let B = s .board in
+    let C = d .capacity in
+    let p = d .position in
+    let e = clear-number (slotCheck d B) (servedName d B ∷ servedLeaf d ∷ servedPassed d ∷ []) clear in
+    let at = slot-position d B e in
+    record {
+      over = passedFrom C p;
+      few = passed-one C p at;
+      clear = λ q. passed-clear C p q at;
+      set = served-serves C p at;
+      said = rw (e, leaf-literal C (servedFrom C p) (served-position C p at)) refl;
+      moved = rw e refl;
+    }
 
 -- On any board, good or not, where slot is not refused: a full round serves the names on the leaves that G-3's two sequences give, in their order.
 pub demand-2-order : (s : State) (rest : List Act) → says Slot s .number ≡ 0 → FullRound s rest → namesFrom s rest ≡ namesOn (s .board) (roundLeaves (s .drive .capacity))
@@ -81,12 +120,29 @@ demand-2-order s rest clear full =
     let is : Valid C (d .position) B = clear-valid C (d .position) B (clear-number (slotCheck d B) (servedName d B ∷ servedLeaf d ∷ servedPassed d ∷ []) clear) in
     full-names C (d .position) B rest is full ∙ ap (namesOn B) (round-literal C (is .at .some) (is .at .few))
 
--- So are the names that round writes.
+-- It ends where the next round starts.
+pub demand-2-ends : (s : State) (rest : List Act) → says Slot s .number ≡ 0 → FullRound s rest → after s (Slot ∷ rest) .drive ≡ s .drive
+demand-2-ends s rest clear full =
+    let d = s .drive in
+    let e = clear-number (slotCheck d (s .board)) (servedName d (s .board) ∷ servedLeaf d ∷ servedPassed d ∷ []) clear in
+    let at = slot-position d (s .board) e in
+    let m = moves s (Slot ∷ rest) in
+    let back : afterSlots (d .capacity) (d .position) (d .capacity) ≡ d .position = rw (full .first) (round-ends (d .capacity) (at .some) (at .few)) in
+    ap₂ driveAt (m .0) (m .1 ∙ ap (afterSlots (d .capacity) (d .position)) (full .slots) ∙ back)
+
+-- Round writes the same names.
 pub demand-2-round : (C : ℕ) (B : List ℕ) → zero < C → C ≤ 4095 → roundNames C B ≡ namesOn B (roundLeaves C)
 unfolding slotNames
 demand-2-round C B some few = ap (namesOn B) (round-literal C some (omega arith))
 
--- ---- Demand 3, for every capacity 1 to 4,095, every slice that is long enough and every list of acts from the opened board
+-- ---- Demand 3, for every capacity and every slice that open takes and every list of acts from the opened board
+
+-- Openable is that open is done.
+pub demand-3-openable : (C : ℕ) (B : List ℕ) → (Openable C B → openedAnswer C B .number ≡ 0) × (openedAnswer C B .number ≡ 0 → Openable C B)
+demand-3-openable C B = (
+  λ may. rw (opened-clear C B may) refl,
+  λ done. let s = open-clear C B (clear-number (openCheck C B) [] done) in record { some = s .some; few = s .few; long = s .long },
+)
 
 module _ (C : ℕ) (B : List ℕ) (may : Openable C B) (acts : List Act) where
   r : Reached C (reach C B acts) (held C B acts)
@@ -112,7 +168,11 @@ module _ (C : ℕ) (B : List ℕ) (may : Openable C B) (acts : List Act) where
   pub demand-3-midround : (a : Act) → isChange a ≡ true → (reach C B acts .drive .position ≡ 1 → ⊥) → (says a (reach C B acts) .number ≡ 4) × (does a (reach C B acts) ≡ reach C B acts)
   demand-3-midround = rw (r .is) (midround C (r .p) (r .B) (held C B acts) (r .holds))
 
-  -- An add that passes the other checks is refused for ROOM exactly when its weight exceeds C less the sum of the weights held; else it is done.
+  -- The weights held are never more than C,
+  pub demand-3-within : total (held C B acts) ≤ C
+  demand-3-within = let i = r .holds .idle in omega arith
+
+  -- and an add that passes the other checks is refused for ROOM exactly when its weight exceeds C less the sum of the weights held; else it is done.
   pub demand-3-room : (x w : ℕ) → firstOf otherChecks (askedAdd (reach C B acts .drive) (reach C B acts .board) x w) ≡ Clear
       → says (Add x w) (reach C B acts) .number ≡ cond (ltb (C - total (held C B acts)) w) 10 0
   demand-3-room = rw (r .is) (room C (r .p) (r .B) (held C B acts) (r .holds))
@@ -146,6 +206,10 @@ module _ (C : ℕ) (B : List ℕ) (may : Openable C B) (acts : List Act) where
       go Slot e h = clash e refl
       go (Round O) e h = clash e refl
       go (Report x) e h = clash e refl
+
+  -- At the start of a round the next C slots are a full round.
+  pub demand-3-full : reach C B acts .drive .position ≡ 1 → FullRound (reach C B acts) (replicate (C - 1) Slot)
+  demand-3-full = rw (r .is) (slots-full C (r .p) (r .B) (r .holds .valid))
 
   -- In each full round a name is served as often as the weight that it holds at the round's first slot.
   pub demand-3-round : (rest : List Act) → FullRound (reach C B acts) rest → (x : ℕ) → (x ≡ 0 → ⊥) → times x (namesFrom (reach C B acts) rest) ≡ heldOf x (held C B acts)

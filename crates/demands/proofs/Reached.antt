@@ -8,23 +8,22 @@ use native.Mathlib.Omega.{arith}
 use native.Mathlib.Decide.{ℕ-discrete}
 use lib.Dec.{eqb}
 use lib.ListN.{length, getD, drop, replicate, length-append, length-replicate, getD-replicate, List·getD-append}
-use borrow.Author.Tests.{eq-eqb, ne-eqb, eqb-true, eqb-false, le-ltb, ltb-false}
+use borrow.Author.Tests.{eq-eqb, ne-eqb, eqb-true}
 use Rattle.sequences.specs.Board.{nextFrom}
 use Rattle.sequences.proofs.Laws.{first-position}
 use Rattle.pieces.specs.Board.{good, weight}
 use Rattle.pieces.specs.Placing.{Placeable, placed}
 use Rattle.pieces.specs.Tidying.{Removable, removed}
 use Rattle.pieces.proofs.Laws.{opened-good, placed-good, placed-weight, placed-idle, placed-others, placed-length, removed-good, removed-name, removed-idle, removed-others, removed-length}
-use Rattle.calls.specs.declared.Refusal.the-variants.{Capacity, Short, Name, Taken, Room}
 use Rattle.calls.specs.declared.Check.{Check}
 use Rattle.calls.specs.declared.Check.the-variants.{Clear, Refused}
 use Rattle.calls.specs.Records.{driveAt}
-use Rattle.calls.specs.Refusals.{addMay, removeMay, applies, askedAdd, askedName, askedOpen, openCheck, addCheck, removeCheck}
+use Rattle.calls.specs.Refusals.{openCheck, addCheck, removeCheck}
 use Rattle.calls.specs.Results.{idleBoard}
+use Rattle.calls.proofs.Laws.{open-sized, add-clear, remove-clear}
 use Rattle.demands.specs.Histories.{Act, Add, Remove, Slot, Round, Report, State, Openable, does, says, after, reach, log}
-use Rattle.demands.specs.Refusing.{listed}
 use Rattle.demands.specs.Holdings.{Stream, without, changed, heldFrom, held, heldOf, total}
-use Rattle.demands.proofs.Checks.{number-some, none-applies, clear-of}
+use Rattle.demands.proofs.Checks.{number-some}
 use Rattle.demands.proofs.Valid.{Valid, stateAt, slot-clear, valid-next}
 
 -- The board is good, and every name has as many leaves as it holds.
@@ -81,22 +80,6 @@ same-either true hs = refl
 same-either false hs = refl
 
 module _ (C p : ℕ) (B : List ℕ) (hs : List Stream) (is : Sound C p B hs) where
-  small : C ≤ 4095
-  small = let l = is .valid .at .few in omega arith
-
-  add-needs : (x w : ℕ) → addCheck (driveAt C p) B x w ≡ Clear → Placeable C B x w
-  unfolding addCheck applies listed
-  add-needs x w e =
-      let clear = clear-of (askedAdd (driveAt C p) B x w) addMay e in
-      let t = ltb-false 0 (weight C B x) (clear Taken refl) in
-      let r = ltb-false (weight C B 0) w (clear Room refl) in
-      record { small = small; long = is .valid .long; sound = is .fine; named = eqb-false x 0 (clear Name refl); absent = omega arith; room = omega arith }
-
-  remove-needs : (x : ℕ) → removeCheck (driveAt C p) B x ≡ Clear → Removable C B x
-  unfolding removeCheck applies listed
-  remove-needs x e =
-      record { small = small; long = is .valid .long; sound = is .fine; named = eqb-false x 0 (clear-of (askedName (driveAt C p) B x) removeMay e Name refl) }
-
   added : (x w : ℕ) → Placeable C B x w → Sound C p (placed C B x w) (changed (Add x w) hs)
   unfolding total heldOf
   added x w m =
@@ -140,12 +123,12 @@ module _ (C p : ℕ) (B : List ℕ) (hs : List Stream) (is : Sound C p B hs) whe
   step (Add x w) = go (addCheck (driveAt C p) B x w) refl
     where
       go : (c : Check) → addCheck (driveAt C p) B x w ≡ c → Reached C (does (Add x w) (stateAt C p B)) (next (Add x w) (stateAt C p B) hs)
-      go Clear e = rw e (record { p = p; B = placed C B x w; is = refl; holds = added x w (add-needs x w e) })
+      go Clear e = rw e (record { p = p; B = placed C B x w; is = refl; holds = added x w (add-clear (driveAt C p) B x w e) })
       go (Refused r) e = rw (e, number-some r) (stays hs refl)
   step (Remove x) = go (removeCheck (driveAt C p) B x) refl
     where
       go : (c : Check) → removeCheck (driveAt C p) B x ≡ c → Reached C (does (Remove x) (stateAt C p B)) (next (Remove x) (stateAt C p B) hs)
-      go Clear e = rw e (record { p = p; B = removed C B x; is = refl; holds = cleared x (remove-needs x e) })
+      go Clear e = rw e (record { p = p; B = removed C B x; is = refl; holds = cleared x (remove-clear (driveAt C p) B x e) })
       go (Refused r) e = rw (e, number-some r) (stays hs refl)
   step Slot = rw (slot-clear C p B (is .valid)) (record { p = nextFrom C p; B = B; is = refl; holds = moved })
   step (Round O) = stays (next (Round O) (stateAt C p B) hs) (same-either (eqb (says (Round O) (stateAt C p B) .number) 0) hs)
@@ -199,13 +182,8 @@ module _ (C : ℕ) (B : List ℕ) (may : Openable C B) where
     nameless = refl;
   }
 
-  open-clear : openCheck C B ≡ Clear
-  unfolding openCheck applies
-  open-clear =
-      let a = may .some in
-      let b = may .few in
-      none-applies (askedOpen C B) Capacity (Short ∷ []) (rw (ne-eqb C 0 (λ e. omega arith), le-ltb 4095 C (omega arith)) refl)
-      (none-applies (askedOpen C B) Short [] (le-ltb (length B) C (may .long)) refl)
+  pub opened-clear : openCheck C B ≡ Clear
+  opened-clear = open-sized C B (record { some = may .some; few = may .few; long = may .long })
 
   pub always : (acts : List Act) → Reached C (reach C B acts) (held C B acts)
-  always acts = rw open-clear (reached C 1 (idleBoard C B) [] opened acts)
+  always acts = rw opened-clear (reached C 1 (idleBoard C B) [] opened acts)

@@ -2,14 +2,18 @@
 -- Assumes nothing.
 use mathlib.Core.Path.{_≡_, refl, ap, _∙_}
 use mathlib.Core.List.{List, [], _∷_}
-use Prim.Native.Nat.{ℕ, zero, suc, _+_, _≤_, _<_}
+use Prim.Native.Nat.{ℕ, zero, suc, _+_, _-_, _≤_, _<_}
 use native.Mathlib.Omega.{arith}
-use lib.ListN.{length, getD, take}
+use lib.ListN.{length, getD, take, replicate}
 use Rattle.sequences.specs.Board.{leafAt, servedFrom, nextFrom}
 use Rattle.sequences.specs.Serving.{leavesFrom, afterSlots, countList}
 use Rattle.sequences.proofs.Laws.{after-more-slots}
-use Rattle.demands.specs.Histories.{Act, Add, Remove, Slot, Round, Report, log}
+use Rattle.calls.specs.declared.Check.{Check}
+use Rattle.calls.specs.declared.Check.the-variants.{Clear, Refused}
+use Rattle.calls.specs.Refusals.{slotCheck}
+use Rattle.demands.specs.Histories.{Act, Add, Remove, Slot, Round, Report, State, does, after, log}
 use Rattle.demands.specs.Rounds.{names, namesFrom, FullRound, inARow, times, namesOn}
+use Rattle.demands.proofs.Checks.{number-some}
 use Rattle.demands.proofs.Windows.{round-away}
 use Rattle.demands.proofs.Streams.{holds}
 use Rattle.demands.proofs.Valid.{Valid, stateAt, slot-clear, valid-next, add-midround, remove-midround}
@@ -62,6 +66,39 @@ full-names C p B rest is full = go p (full .first) is (let l = full .slots in om
   where
     go : (p : ℕ) → p ≡ 1 → Valid C p B → length (namesFrom (stateAt C p B) rest) ≡ C → namesFrom (stateAt C p B) rest ≡ namesOn B (leavesFrom C 1 C)
     go p e is l = rw e (round-names C B rest C (rw e at is) (omega arith) (rw e at l))
+
+-- ---- how far slots move a record
+
+-- acts move a record by the slots among them that are served, on any board
+pub moves : (s : State) (acts : List Act)
+    → (after s acts .drive .capacity ≡ s .drive .capacity)
+    × (after s acts .drive .position ≡ afterSlots (s .drive .capacity) (s .drive .position) (length (names (log s acts))))
+unfolding after names log afterSlots
+moves s [] = (refl, refl)
+moves s (Add x w ∷ acts) = moves (does (Add x w) s) acts
+moves s (Remove x ∷ acts) = moves (does (Remove x) s) acts
+moves s (Round O ∷ acts) = moves s acts
+moves s (Report x ∷ acts) = moves s acts
+moves s (Slot ∷ acts) = go (slotCheck (s .drive) (s .board)) refl (moves (does Slot s) acts)
+  where
+    go : (c : Check) → slotCheck (s .drive) (s .board) ≡ c
+        → (after (does Slot s) acts .drive .capacity ≡ does Slot s .drive .capacity)
+        × (after (does Slot s) acts .drive .position ≡ afterSlots (does Slot s .drive .capacity) (does Slot s .drive .position) (length (names (log (does Slot s) acts))))
+        → (after (does Slot s) acts .drive .capacity ≡ s .drive .capacity)
+        × (after (does Slot s) acts .drive .position ≡ afterSlots (s .drive .capacity) (s .drive .position) (length (namesFrom s acts)))
+    go Clear e ih = rw e (rw e at ih)
+    go (Refused r) e ih = rw (e, number-some r) (rw e at ih)
+
+-- n slots serve n names
+slots-length : (C p : ℕ) (B : List ℕ) (n : ℕ) → Valid C p B → length (names (log (stateAt C p B) (replicate n Slot))) ≡ n
+unfolding names log
+slots-length C p B zero is = refl
+slots-length C p B (suc n) is = rw (slot-names C B p (replicate n Slot) is, slots-length C (nextFrom C p) B n (valid-next C p B is)) refl
+
+pub slots-full : (C p : ℕ) (B : List ℕ) → Valid C p B → p ≡ 1 → FullRound (stateAt C p B) (replicate (C - 1) Slot)
+slots-full C p B is first =
+    let n : suc (C - 1) ≡ C = let s = is .at .some in omega arith in
+    record { first = first; slots = slots-length C p B (suc (C - 1)) is ∙ n }
 
 -- ---- slots in a row
 

@@ -5,8 +5,7 @@ use mathlib.Core.List.{List, [], _∷_}
 use Prim.Native.Nat.{ℕ, _-_, _^_, _≤_}
 use native.Mathlib.Omega.{arith}
 use lib.ListN.{length}
-use lib.Pow.{pow-pos}
-use borrow.Author.Tests.{ne-eqb, le-ltb, eqb-false, ltb-false}
+use borrow.Author.Tests.{ne-eqb, le-ltb}
 use Rattle.sequences.specs.Board as board
 use Rattle.sequences.specs.Board.{digits, nextFrom}
 use Rattle.sequences.proofs.Laws.{next-position}
@@ -14,9 +13,9 @@ use Rattle.calls.specs.declared.Refusal.the-variants.{Capacity, Short, Position
 use Rattle.calls.specs.declared.Check.the-variants.{Clear, Refused}
 use Rattle.calls.specs.Records.{driveAt}
 use Rattle.calls.specs.Refusals.{applies, asked, askedAdd, askedName, slotMay, addCheck, removeCheck, slotCheck}
-use Rattle.demands.specs.Refusing.{listed}
+use Rattle.calls.proofs.Laws.{slot-sized, slot-position}
 use Rattle.demands.specs.Histories.{State}
-use Rattle.demands.proofs.Checks.{either-false, none-applies, clear-of, first-after}
+use Rattle.demands.proofs.Checks.{none-applies, first-after}
 
 abbrev pub stateAt : ℕ → ℕ → List ℕ → State
 stateAt C p B = record { drive = driveAt C p; board = B }
@@ -39,20 +38,7 @@ module _ (C p : ℕ) (B : List ℕ) where
       (none-applies q Position [] (rw (ne-eqb p 0 (λ e. omega arith), le-ltb (2 ^ digits C - 1) p (omega arith)) refl) refl))
 
   pub clear-valid : slotCheck (driveAt C p) B ≡ Clear → Valid C p B
-  unfolding slotCheck applies listed
-  clear-valid e =
-      let clear = clear-of (asked (driveAt C p) B) slotMay e in
-      let c = either-false _ _ (clear Capacity refl) in
-      let q = either-false _ _ (clear Position refl) in
-      let a = eqb-false C 0 (c .0) in
-      let b = ltb-false 4095 C (c .1) in
-      let f = eqb-false p 0 (q .0) in
-      let l = ltb-false (2 ^ digits C - 1) p (q .1) in
-      let z = pow-pos (digits C) in
-      record {
-        at = record { some = omega arith; few = omega arith; first = omega arith; last = omega arith };
-        long = let s = ltb-false (length B) C (clear Short refl) in omega arith;
-      }
+  clear-valid e = record { at = slot-position (driveAt C p) B e; long = slot-sized (driveAt C p) B e .long }
 
   pub valid-next : Valid C p B → Valid C (nextFrom C p) B
   valid-next is = record { at = next-position C p (is .at); long = is .long }

@@ -1,15 +1,18 @@
 -- The names that slots serve, full rounds, slots in a row within them, and how near two numbers are.
 -- Assumes nothing.
 use mathlib.Core.Path.{_≡_}
-use mathlib.Core.Bool.{cond}
+use mathlib.Core.Bool.{true, false, cond}
 use mathlib.Core.List.{List, [], _∷_, map}
-use Prim.Native.Nat.{ℕ, _+_, _*_, _<_}
+use Prim.Native.Nat.{ℕ, _+_, _-_, _*_, _/_, _^_, _≤_, _<_}
 use lib.Count.{ones}
 use lib.Dec.{eqb}
 use lib.ListN.{length, getD, take, drop}
-use Rattle.sequences.specs.Serving.{countList}
+use Rattle.sequences.specs.Sequences.{wss, tss}
+use Rattle.sequences.specs.Board.{digits, start, after as next}
+use Rattle.sequences.specs.Serving.{countList, serves}
+use Rattle.calls.specs.Records.{movedTo}
 use Rattle.calls.specs.Answers.{Answer}
-use Rattle.demands.specs.Histories.{Act, Add, Remove, Slot, Round, Report, State, Event, log}
+use Rattle.demands.specs.Histories.{Act, Add, Remove, Slot, Round, Report, State, Event, does, says, log}
 
 -- The name that an act serves, before those that later acts serve: a slot that is not refused says it first.
 abbrev pub servedBy : Act → Answer → List ℕ → List ℕ
@@ -32,6 +35,25 @@ namesFrom s rest = names (log s (Slot ∷ rest))
 pub record FullRound (s : State) (rest : List Act) : Type 0 where
   pub first : s .drive .position ≡ 1
   pub slots : length (namesFrom s rest) ≡ s .drive .capacity
+
+-- The leaf that G-3's two sequences, as lists, have at position p: the term v there selects column j = k - v, and of the time-slot sequence of order j
+-- entry p / 2 ^ v is taken, from the start of tree j.
+abbrev pub leafListed : ℕ → ℕ → ℕ
+leafListed C p =
+    let v = getD (wss (digits C)) (p - 1) 0 in
+    start C (digits C - v) + getD (tss (digits C - v)) (p / 2 ^ v) 0
+
+-- A slot in its turn: from the stored position on, clear terms are passed over, at most one, and the next term serves. The slot says the name on the leaf
+-- that the two sequences have there, the leaf, and how many terms were passed over; the record moves to the position after.
+pub record InTurn (s : State) : Type 0 where
+  pub over : ℕ
+  pub few : over ≤ 1
+  pub clear : (q : ℕ) → s .drive .position ≤ q → q < s .drive .position + over → serves (s .drive .capacity) q ≡ false
+  pub set : serves (s .drive .capacity) (s .drive .position + over) ≡ true
+  pub said :
+      let leaf = leafListed (s .drive .capacity) (s .drive .position + over) in
+      says Slot s .values ≡ getD (s .board) leaf 0 ∷ leaf ∷ over ∷ []
+  pub moved : does Slot s .drive ≡ movedTo (s .drive) (next (digits (s .drive .capacity)) (s .drive .position + over))
 
 -- The t slots from slot i on, counted from 0.
 abbrev pub inARow : ℕ → ℕ → List ℕ → List ℕ

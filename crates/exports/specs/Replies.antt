@@ -1,6 +1,6 @@
 -- What an exported function gives back: the record, and document 01's number and values as plain numbers. The numbers and values themselves are
 -- defined beside the calls. Assumes nothing.
-use mathlib.Core.List.{List, [], _∷_}
+use mathlib.Core.List.{[], _∷_}
 use Prim.Native.Nat.{ℕ}
 use lib.ListN.{getD}
 use Rattle.calls.specs.Refusals.{numberOf}

@@ -33,10 +33,11 @@ same [] (b ∷ t) = false
 same (a ∷ s) [] = false
 same (a ∷ s) (b ∷ t) = eqb a b && same s t
 
--- the digits `0` to `9`
+-- a digit, `0` to `9`
 unfoldable pub digit : ℕ → Bool
 digit b = leb 48 b && leb b 57
 
+-- nothing but digits
 unfoldable pub digits : List ℕ → Bool
 digits [] = true
 digits (b ∷ s) = digit b && digits s

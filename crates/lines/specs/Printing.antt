@@ -21,6 +21,7 @@ unfoldable pub field : ℕ → List ℕ
 unfolding decimal
 field n = 32 ∷ decimal n
 
+-- values, one after the other
 unfoldable pub fields : List ℕ → List ℕ
 unfolding field
 fields [] = []

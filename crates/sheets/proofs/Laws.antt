@@ -1,33 +1,34 @@
--- The laws of sheets that upper crates and docs cite: what the test of read says, both halves of demand 2, that no second answer keeps a promise, and
--- that a refusal leaves everything as it was. Assumes nothing.
+-- The laws of sheets that upper crates and docs cite: what the test of read says, both halves of demand 2, that no second answer keeps a promise,
+-- that a refusal leaves everything as it was, and that a call answers only what it may. Assumes nothing.
 use mathlib.Core.Path.{_≡_, refl, sym, ap, subst, _∙_}
-use mathlib.Core.Bool.{true}
+use mathlib.Core.Bool.{Bool, true, false, not, _||_}
 use mathlib.Core.List.{List, [], _∷_, _++_}
 use Prim.Native.Nat.{ℕ, _+_, _-_, _*_, _^_, _≤_, _<_}
 use native.Mathlib.Omega.{arith}
 use native.Mathlib.Decide.{decLt}
 use lib.ListN.{length, getD, take, drop, length-append, List·getD-append, List·getD-eq-default}
 use lib.Seq.{getD-take, take-at, take-all}
-use borrow.Author.Tests.{le-ltb, ne-eqb}
+use lib.Dec.{eqb, ltb}
+use borrow.Author.Tests.{le-ltb}
 use Rattle.pieces.specs.Board.{good}
 use Rattle.pieces.proofs.Laws.{good-same}
 use Rattle.sequences.specs.Board.{digits}
 use Rattle.sequences.proofs.Laws.{digits-lt}
 use Rattle.calls.specs.Records.{driveAt}
-use Rattle.calls.specs.Refusals.{openCheck, changeCheck, positionCheck}
+use Rattle.calls.specs.Refusals.{refuseIf, andThen, applies, among, askedOutput, openCheck, changeCheck, goodCheck, positionCheck}
 use Rattle.calls.specs.declared.Drive.{Drive}
+use Rattle.calls.specs.declared.Refusal.the-variants.{Capacity, Short, Damaged, Block}
 use Rattle.calls.specs.declared.Check.{Check}
 use Rattle.calls.specs.declared.Check.the-variants.{Clear, Refused}
 use Rattle.calls.specs.Answers.{Answer, answered}
-use Rattle.calls.specs.Results.{ifClear}
-use Rattle.calls.proofs.Laws.{Refuses, ascending, Sized, open-clear, slot-sized, change-slot, change-good, slot-parts, change-parts}
+use Rattle.calls.proofs.Laws.{Refuses, refuses, kept, zeros, may, ascending, Sized, open-clear, open-sized, slot-sized, change-slot, change-good, slot-parts, change-parts}
 use Rattle.sheets.specs.declared.Saved.{Saved}
 use Rattle.sheets.specs.declared.Saving.the-variants as saving
 use Rattle.sheets.specs.declared.Loaded.{Loaded}
 use Rattle.sheets.specs.declared.Loading.the-variants as loading
 use Rattle.sheets.specs.Blocks.{Bytes, Words, listed, bytesOf, block, stack}
 use Rattle.sheets.specs.Sheet.{blocks, leafOf, page, sheet, capacityIn, place, leafIn, leavesIn, laid, Layout}
-use Rattle.sheets.specs.Results.{saveMay, saveCheck, savingBy, saved, savedOutput, savingAnswer, readCheck, loadingBy, loaded, loadedBoard, loadingAnswer}
+use Rattle.sheets.specs.Results.{saveMay, saveCheck, savingBy, saved, savedOutput, savingAnswer, readMay, blockCheck, readCheck, loadingBy, loaded, loadedBoard, loadingAnswer}
 use Rattle.sheets.specs.Promises.{Saves, Loads}
 use Rattle.sheets.proofs.Lists.{listed-at}
 use Rattle.sheets.proofs.Numbers.{number-small}
@@ -35,13 +36,7 @@ use Rattle.sheets.proofs.Layouts.{sheet-length, sheet-layout, sheet-lea
 use Rattle.sheets.proofs.Stores.{leaves-length, leaves-taken}
 use Rattle.sheets.proofs.Checked.{good-check, check-good, Readable, read-clear, clear-read, save-passes, clear-change}
 
--- what passes the checks of open and of a change
-open-sized : (C : ℕ) (B : List ℕ) → Sized C B → openCheck C B ≡ Clear
-unfolding openCheck
-open-sized C B s =
-    let nonzero : C ≡ 0 → ⊥ = λ e. omega arith in
-    rw (ne-eqb C 0 nonzero, le-ltb 4095 C (s .few), le-ltb (length B) C (s .long))
-
+-- what passes the checks of a change
 position-first : (C : ℕ) → 0 < C → positionCheck C 1 ≡ Clear
 unfolding positionCheck
 position-first C pos = rw (le-ltb (2 ^ digits C - 1) 1 (omega (arith, digits-lt C)))
@@ -194,15 +189,7 @@ pub save-ascending : ascending 0 saveMay ≡ true
 unfolding ascending
 save-ascending = refl
 
--- No second answer fits, and a refusal leaves everything as it was.
-left : {A : Type 0} (k : Check) (vs : List ℕ) (done was : A) {a : Answer} → a ≡ answered k vs → Refuses a → ifClear k done was ≡ was
-left Clear vs done was e h = absurd (h (ap (λ (a : Answer). a .number) e))
-left (Refused r) vs done was e h = refl
-
-zeros : (k : Check) (v : ℕ) {a : Answer} → a ≡ answered k (v ∷ []) → Refuses a → a .values ≡ 0 ∷ []
-zeros Clear v e h = absurd (h (ap (λ (a : Answer). a .number) e))
-zeros (Refused r) v e h = ap (λ (a : Answer). a .values) e
-
+-- No second answer fits, a refusal leaves everything as it was, and a call answers only what it may.
 module _ (d : Drive) (B O : List ℕ) where
   pub save-unique : {r q : Saved} {E F : List ℕ} → Saves d B O r E → Saves d B O q F → (r ≡ q) × (E ≡ F)
   save-unique h k = (h .0 ∙ sym (k .0), h .2 ∙ sym (k .2))
@@ -212,7 +199,26 @@ module _ (d : Drive) (B O : List ℕ) where
   save-refused h f =
       let size = 512 * blocks (d .capacity) in
       let check = saveCheck d B (length O) in
-      (ap (λ (q : Saved). q .drive) (h .0), zeros check size (h .1) f, h .2 ∙ left check (size ∷ []) (sheet (d .capacity) B ++ drop size O) O (h .1) f)
+      let n = refuses (h .1) f in (
+        ap (λ (q : Saved). q .drive) (h .0),
+        ap (λ (a : Answer). a .values) (h .1) ∙ zeros check (size ∷ []) n,
+        h .2 ∙ kept check (size ∷ []) (sheet (d .capacity) B ++ drop size O) O n,
+      )
+
+  pub save-may : {r : Saved} {E : List ℕ} → Saves d B O r E → among (savingAnswer (r .answer) .number) saveMay ≡ true
+  unfolding saveCheck
+  save-may h = may saveMay (askedOutput d B (length O) (512 * blocks (d .capacity))) (512 * blocks (d .capacity) ∷ []) (h .1)
+
+-- what read answers, by its five tests
+read-among : (short size lent layout bad : Bool)
+    → among (answered (andThen (refuseIf short Block Clear) (andThen (refuseIf size Capacity (refuseIf lent Short Clear)) (andThen (refuseIf layout Block Clear) (refuseIf bad Damaged Clear)))) [] .number) readMay ≡ true
+unfolding among
+read-among true size lent layout bad = refl
+read-among false true lent layout bad = refl
+read-among false false true layout bad = refl
+read-among false false false true bad = refl
+read-among false false false false true = refl
+read-among false false false false false = refl
 
 module _ (s B : List ℕ) where
   pub read-unique : {r q : Loaded} {E F : List ℕ} → Loads s B r E → Loads s B q F → (r ≡ q) × (E ≡ F)
@@ -220,7 +226,14 @@ module _ (s B : List ℕ) where
 
   pub read-refused : {r : Loaded} {E : List ℕ} → Loads s B r E → Refuses (loadingAnswer (r .answer)) → (r .drive ≡ driveAt 0 0) × (E ≡ B)
   read-refused h f =
-      let C = capacityIn s in (
-        ap (λ (q : Loaded). q .drive) (h .0) ∙ left (readCheck s B) [] (driveAt C 1) (driveAt 0 0) (h .1) f,
-        h .2 ∙ left (readCheck s B) [] (leavesIn C s ++ drop C B) B (h .1) f,
+      let C = capacityIn s in
+      let n = refuses (h .1) f in (
+        ap (λ (q : Loaded). q .drive) (h .0) ∙ kept (readCheck s B) [] (driveAt C 1) (driveAt 0 0) n,
+        h .2 ∙ kept (readCheck s B) [] (leavesIn C s ++ drop C B) B n,
       )
+
+  pub read-may : {r : Loaded} {E : List ℕ} → Loads s B r E → among (loadingAnswer (r .answer) .number) readMay ≡ true
+  unfolding readCheck blockCheck openCheck goodCheck applies
+  read-may h =
+      ap (λ (b : Answer). among (b .number) readMay) (h .1)
+      ∙ read-among (ltb (length s) 512) (eqb (capacityIn s) 0 || ltb 4095 (capacityIn s)) (ltb (length B) (capacityIn s)) (not (laid (capacityIn s) s)) (not (good (capacityIn s) (leavesIn (capacityIn s) s)))

@@ -13,7 +13,7 @@ use borrow.Author.Tests.{eqb-true, eq-eqb, ne-eqb}
 use Rattle.sheets.specs.Blocks.{listed, every, total, bytesOf, numberAt, closing, block, stack, sealed, Bytes, Words}
 use Rattle.sheets.specs.Sheet.{blocks, leafOf, page, sheet, place, leafIn, leavesIn, restIn, numbered, zeros, laid, Layout}
 use Rattle.sheets.proofs.Lists.{and-left, and-right, listed-length, listed-at, listed-same, listed-more, total-append, stack-length, stack-at, stack-same, stack-listed, every-at, every-all}
-use Rattle.sheets.proofs.Numbers.{bytes-length, bytes-small, number-bytes, number-small, bytes-numbers, closing-sum, closing-only, closing-small}
+use Rattle.sheets.proofs.Numbers.{bytes-length, number-bytes, number-small, bytes-numbers, closing-sum, closing-only, closing-small}
 
 total-one : (n : ℕ) → total (n ∷ []) ≡ n
 unfolding total
@@ -74,10 +74,6 @@ module _ (C : ℕ) (B : List ℕ) where
   pub sheet-length : length (sheet C B) ≡ 512 * blocks C
   unfolding sheet
   sheet-length = omega (arith, bytes-length (stack (page C B) 0 (blocks C)), stack-length (page C B) 256 page-length 0 (blocks C))
-
-  pub sheet-bytes : Bytes (sheet C B)
-  unfolding sheet
-  sheet-bytes = bytes-small (stack (page C B) 0 (blocks C))
 
   page-number : (b : ℕ) → getD (page C B b) 0 0 ≡ b
   unfolding page block

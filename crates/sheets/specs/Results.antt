@@ -60,13 +60,17 @@ savedOutput d B O =
     let done = sheet (d .capacity) B ++ drop (512 * blocks (d .capacity)) O in
     ifClear (saveCheck d B (length O)) done O
 
--- What is found of a sheet that breaks its layout or does not.
+-- What is asked of a sheet alone: whether it breaks its layout.
 abbrev pub askedSheet : Bool → Asked
 askedSheet broken = record { capacity = 0; position = 0; board = []; name = 0; weight = 0; output = 0; needed = 0; broken = broken }
 
 unfoldable pub blockCheck : Bool → Check
 unfolding firstOf
 blockCheck broken = firstOf (Block ∷ []) (askedSheet broken)
+
+-- What read may answer.
+abbrev pub readMay : List Refusal
+readMay = Capacity ∷ Short ∷ Damaged ∷ Block ∷ []
 
 -- read, in its own order: under 512 bytes, 12; C of block 0 out of range, 1, or the lent board too short, 2, as open has them; anything wrong
 -- with length or layout, 12; the sheet's board not good, 5.

@@ -27,23 +27,27 @@ sheet C B = bytesOf (stack (page C B) 0 (blocks C))
 unfoldable pub place : ℕ → ℕ
 place i = 256 * (i / 253) + (2 + i % 253)
 
+-- leaf i of a sheet
 unfoldable pub leafIn : List ℕ → ℕ → ℕ
 leafIn s i = numberAt s (place i)
 
--- C of block 0, the C leaves, and what stands after the last leaf
+-- C of block 0
 unfoldable pub capacityIn : List ℕ → ℕ
 capacityIn s = numberAt s 1
 
+-- the C leaves
 unfoldable pub leavesIn : ℕ → List ℕ → List ℕ
 leavesIn C s = listed (leafIn s) 0 C
 
+-- what stands after the last leaf, to the end of the last block's 253 numbers
 unfoldable pub restIn : ℕ → List ℕ → List ℕ
 restIn C s = listed (leafIn s) C (253 * blocks C - C)
 
--- block b has its own number
+-- block b has its own number, C and a right sum
 unfoldable pub numbered : List ℕ → ℕ → ℕ → Bool
 numbered s C b = sealed s b b C
 
+-- each number is 0
 unfoldable pub zeros : List ℕ → Bool
 zeros [] = true
 zeros (n ∷ ns) = eqb n 0 && zeros ns

@@ -87,7 +87,7 @@ fn are_numbered(sheet: &[u8], c: usize, n: usize) -> bool
     true
 }
 
-// The sum of what stands after the last leaf: the numbers before the last of n blocks' last.
+// The sum of the numbers after the last leaf. They stand before the last number of the last of n blocks.
 fn rest_sum(sheet: &[u8], c: usize, n: usize) -> usize
     requires { ⌜ (n ≡ blocks c) × (0 < c) × (c ≤ 4095) × (512 * n ≤ length (now sheet)) ⌝ }
     ensures { λ r. ⌜ r ≡ total (restIn c (now (sheet .entry))) ⌝ }
@@ -96,7 +96,7 @@ fn rest_sum(sheet: &[u8], c: usize, n: usize) -> usize
     blocks::sum(sheet, 256 * n - 1 - rest, rest)
 }
 
-// Whether the bytes keep the layout of a sheet.
+// Whether the bytes keep the layout of a sheet of c leaves.
 pub fn is_laid(sheet: &[u8], c: usize) -> bool
     requires { ⌜ (0 < c) × (c ≤ 4095) ⌝ }
     ensures { λ r. ⌜ r ≡ laid c (now (sheet .entry)) ⌝ }
@@ -139,7 +139,7 @@ pub fn read_leaves(sheet: &[u8], c: usize, board: &mut [u16])
     }
 }
 
-// Sets the first leaves of a board.
+// Copies leaves to the start of a board.
 pub fn set_leaves(leaves: &[u16], board: &mut [u16])
     requires { ⌜ length (now leaves) ≤ length (now board) ⌝ }
     ensures { λ _. ⌜ now (board .exit) ≡ now (leaves .entry) ++ drop (length (now (leaves .entry))) (now (board .entry)) ⌝ }

@@ -44,7 +44,8 @@ fn no_leaves() -> [u16; 4095]
     [0u16; 4095]
 }
 
-// The refusal 5, of the leaves of a sheet that keeps its layout. They are tested in entries of its own; where they pass, the board gets them.
+// The refusal 5, of the leaves of a sheet that keeps its layout. They are read to entries that are not lent and tested there; where they pass, the
+// board gets them.
 fn load_leaves(sheet: &[u8], c: usize, board: &mut [u16]) -> Check
     requires { ⌜ (c ≤ length (now board)) × (c ≤ 4095) × (512 * blocks c ≤ length (now sheet)) ⌝ }
     ensures { λ r. ⌜ (r ≡ goodCheck c (leavesIn c (now (sheet .entry)))) × (now (board .exit) ≡ ifClear r (leavesIn c (now (sheet .entry)) ++ drop c (now (board .entry))) (now (board .entry))) ⌝ }

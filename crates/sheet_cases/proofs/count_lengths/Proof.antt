@@ -2,7 +2,6 @@
 use mathlib.Core.Logic.{⊎-elim}
 use Prim.Native.Nat.{_≤_, _-_}
 use native.Mathlib.Omega.{arith}
-use borrow.Author.Needs.{needs}
 use Rattle.sheet_cases.proofs.count_lengths.Statement.{statement}
 use Rattle.sheet_cases.proofs.count_lengths.Tie as tie
 
