@@ -1,11 +1,12 @@
 // The console's loop: standard input is read in large blocks, heard, and what is said is written in large blocks, before
 // more input is waited for. What is heard and said is the promises of `lines`; no contract can say what is read or
-// written.
+// written, but whatever it is, the board is as a session over some input leaves it.
 use libc::STDIN_FILENO;
 use libc::STDOUT_FILENO;
 use lines::Session;
 ghost use mathlib.Core.Path.{_≡_};
 ghost use lib.ListN.{length};
+ghost use Rattle.desk.specs.Serving.{Follows, Served};
 
 // A session, and whether there is more to hear: the input has not ended, and what was said could be written.
 struct Turn {
@@ -21,7 +22,9 @@ fn large_room() -> [u8; 131072]
 }
 
 // Hears a block of input to its end, and writes what is said of it.
-fn hear_block(session: Session, input: &[u8], board: &mut [u16], out: &mut [u8]) -> Turn {
+fn hear_block(session: Session, input: &[u8], board: &mut [u16], out: &mut [u8]) -> Turn
+    ensures { λ r. ⌜ Follows session (now (board .entry)) (r .session) (now (board .exit)) ⌝ }
+{
     let mut s = session;
     let mut at: usize = 0;
     while at < input.len() {
@@ -50,7 +53,9 @@ fn hear_block(session: Session, input: &[u8], board: &mut [u16], out: &mut [u8])
 }
 
 // The end of the input: the last line, where no line feed ended it.
-fn hear_end(session: Session, board: &mut [u16], out: &mut [u8]) -> Turn {
+fn hear_end(session: Session, board: &mut [u16], out: &mut [u8]) -> Turn
+    ensures { λ r. ⌜ Follows session (now (board .entry)) (r .session) (now (board .exit)) ⌝ }
+{
     let fed = lines::finish(session, board, out);
     let to = fed.to;
     io::write_all(STDOUT_FILENO, &out[..to]);
@@ -62,7 +67,9 @@ fn hear_end(session: Session, board: &mut [u16], out: &mut [u8]) -> Turn {
 }
 
 // Reads once, and answers what came.
-fn take_turn(session: Session, input: &mut [u8], board: &mut [u16], out: &mut [u8]) -> Turn {
+fn take_turn(session: Session, input: &mut [u8], board: &mut [u16], out: &mut [u8]) -> Turn
+    ensures { λ r. ⌜ Follows session (now (board .entry)) (r .session) (now (board .exit)) ⌝ }
+{
     let got = libc::read(STDIN_FILENO, input);
     let n = io::count(got, input);
     if n == 0 {
@@ -73,7 +80,9 @@ fn take_turn(session: Session, input: &mut [u8], board: &mut [u16], out: &mut [u
 
 // Turns until there is no more to hear. A proved loop has to end, and nothing says that the input does, so the turns
 // are counted down from a number that no run uses up.
-fn talk(input: &mut [u8], board: &mut [u16], out: &mut [u8]) {
+fn talk(input: &mut [u8], board: &mut [u16], out: &mut [u8])
+    ensures { λ _. ⌜ Served (now (board .entry)) (now (board .exit)) ⌝ }
+{
     let mut session = Session::new();
     let mut turns = u64::MAX;
     while turns > 0 {
@@ -87,7 +96,9 @@ fn talk(input: &mut [u8], board: &mut [u16], out: &mut [u8]) {
 }
 
 // Answers standard input to its end on standard output.
-pub fn serve(board: &mut [u16]) {
+pub fn serve(board: &mut [u16])
+    ensures { λ _. ⌜ Served (now (board .entry)) (now (board .exit)) ⌝ }
+{
     let mut input = io::large_buffer();
     let mut out = large_room();
     talk(&mut input, board, &mut out);

@@ -62,3 +62,12 @@ pub said-parts : (s r : List ℕ) (t : Talk)
     → heardAll t (s ++ r) .said ≡ heardAll t s .said ++ heardAll (begun (heardAll t s .session) (heardAll t s .board)) r .said
 unfolding onto
 said-parts s r t = ap (λ (u : Talk). u .said) (heard-append s r t ∙ go-on r (heardAll t s))
+
+-- and so are the session and the board
+pub left-parts : (s r : List ℕ) (t : Talk)
+    → (heardAll t (s ++ r) .session ≡ heardAll (begun (heardAll t s .session) (heardAll t s .board)) r .session)
+    × (heardAll t (s ++ r) .board ≡ heardAll (begun (heardAll t s .session) (heardAll t s .board)) r .board)
+unfolding onto
+left-parts s r t =
+    let e = heard-append s r t ∙ go-on r (heardAll t s) in
+    (ap (λ (u : Talk). u .session) e, ap (λ (u : Talk). u .board) e)

@@ -1,20 +1,21 @@
--- `desk::hear_block` meets its contract. The loop keeps the lengths of what is lent; what is left of the block falls. Assumes nothing.
+-- `desk::hear_block` meets its contract. The loop keeps the lengths of what is lent, and follows from the start; what is left of the block falls. Assumes nothing.
 use mathlib.Core.Path.{_≡_}
 use Prim.Native.Nat.{_-_, _≤_}
 use native.Mathlib.Omega.{arith}
 use lib.ListN.{length, length-take, length-drop}
-use borrow.Author.Needs.{needs}
+use Rattle.desk.specs.Serving.{Follows}
+use Rattle.desk.proofs.Hearing.{at-first, fed-follows, then}
 use Rattle.desk.proofs.hear_block.Statement.{statement}
 use Rattle.desk.proofs.hear_block.Tie as tie
 
 abbrev Inv-loop : tie.InvT-loop
-Inv-loop input board₀ out₀ s₀ at₀ board out s at = (at ≤ length input) × (length board ≡ length board₀) × (length out ≡ length out₀)
+Inv-loop input board₀ out₀ s₀ at₀ board out s at = ((at ≤ length input) × (length board ≡ length board₀) × (length out ≡ length out₀)) × Follows s₀ board₀ s board
 
 abbrev μ-loop : tie.MeasureT-loop
 μ-loop input board₀ out₀ s₀ at₀ board out s at = length input - at
 
 loop-holds : tie.Need-loop-holds Inv-loop μ-loop
-loop-holds c = search needs
+loop-holds c = (omega arith, at-first _ _)
 
 sub-feed : tie.Need-sub-feed Inv-loop μ-loop
 sub-feed c = omega arith
@@ -44,7 +45,7 @@ same-length-2 : tie.Need-same-length-2 Inv-loop μ-loop
 same-length-2 c = omega (arith, c .before .before .before .before .before .before .before .before .feed .kept .1 .1 .0, c .before .before .before .before .before .before .before .before .feed .kept .1 .1 .1 .0)
 
 returns : tie.Need-returns Inv-loop μ-loop
-returns c = tt
+returns c = then _ _ _ _ _ _ (c .before .before .before .before .before .before .before .before .before .before .before .before .before .loop .inv .1) (fed-follows _ _ _ _ _ _ _ (c .before .before .before .before .before .before .before .before .feed .ensures))
 
 same-length-3 : tie.Need-same-length-3 Inv-loop μ-loop
 same-length-3 c = omega (arith, c .before .before .before .before .before .before .before .before .before .feed .kept .1 .1 .0, c .before .before .before .before .before .before .before .before .before .feed .kept .1 .1 .1 .0)
@@ -53,7 +54,7 @@ same-length-4 : tie.Need-same-length-4 Inv-loop μ-loop
 same-length-4 c = omega (arith, c .before .before .before .before .before .before .before .before .before .feed .kept .1 .1 .0, c .before .before .before .before .before .before .before .before .before .feed .kept .1 .1 .1 .0)
 
 returns-2 : tie.Need-returns-2 Inv-loop μ-loop
-returns-2 c = tt
+returns-2 c = then _ _ _ _ _ _ (c .before .before .before .before .before .before .before .before .before .before .before .before .before .before .loop .inv .1) (fed-follows _ _ _ _ _ _ _ (c .before .before .before .before .before .before .before .before .before .feed .ensures))
 
 add-at : tie.Need-add-at Inv-loop μ-loop
 add-at c = omega (arith, simp (length-take, length-drop) at (c .before .before .before .before .before .before .before .before .before .feed .ensures .used))
@@ -62,7 +63,7 @@ loop-less : tie.Need-loop-less Inv-loop μ-loop
 loop-less c = omega (arith, simp (length-take, length-drop) at (c .before .before .before .before .before .before .before .before .before .feed .ensures .used))
 
 loop-again : tie.Need-loop-again Inv-loop μ-loop
-loop-again c = omega (arith, simp (length-take, length-drop) at (c .before .before .before .before .before .before .before .before .before .feed .ensures .used), c .before .before .before .before .before .before .before .before .before .feed .kept .1 .1 .0, c .before .before .before .before .before .before .before .before .before .feed .kept .1 .1 .1 .0)
+loop-again c = (omega (arith, simp (length-take, length-drop) at (c .before .before .before .before .before .before .before .before .before .feed .ensures .used), c .before .before .before .before .before .before .before .before .before .feed .kept .1 .1 .0, c .before .before .before .before .before .before .before .before .before .feed .kept .1 .1 .1 .0), then _ _ _ _ _ _ (c .before .before .before .before .before .before .before .before .before .before .before .before .before .before .loop .inv .1) (fed-follows _ _ _ _ _ _ _ (c .before .before .before .before .before .before .before .before .before .feed .ensures)))
 
 same-length-5 : tie.Need-same-length-5 Inv-loop μ-loop
 same-length-5 c = omega arith
@@ -71,7 +72,7 @@ same-length-6 : tie.Need-same-length-6 Inv-loop μ-loop
 same-length-6 c = omega arith
 
 returns-3 : tie.Need-returns-3 Inv-loop μ-loop
-returns-3 c = tt
+returns-3 c = c .before .loop .inv .1
 
 pub hear-block-spec : {M : Type 1} → statement M
 hear-block-spec =

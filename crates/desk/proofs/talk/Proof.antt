@@ -1,13 +1,15 @@
--- `desk::talk` meets its contract. The loop keeps the lengths of what is lent; the turns left fall. Assumes nothing.
+-- `desk::talk` meets its contract. The loop keeps the lengths of what is lent, and follows from the start; the turns left fall. Assumes nothing.
 use mathlib.Core.Path.{_≡_}
 use native.Mathlib.Omega.{arith}
 use lib.ListN.{length}
-use borrow.Author.Needs.{needs}
+use Rattle.lines.specs.Sessions.{started}
+use Rattle.desk.specs.Serving.{Follows}
+use Rattle.desk.proofs.Hearing.{at-first, then, follows-served}
 use Rattle.desk.proofs.talk.Statement.{statement}
 use Rattle.desk.proofs.talk.Tie as tie
 
 abbrev Inv-loop : tie.InvT-loop
-Inv-loop input₀ board₀ out₀ session₀ turns₀ input board out session turns = (length input ≡ length input₀) × (length board ≡ length board₀) × (length out ≡ length out₀)
+Inv-loop input₀ board₀ out₀ session₀ turns₀ input board out session turns = ((length input ≡ length input₀) × (length board ≡ length board₀) × (length out ≡ length out₀)) × Follows started board₀ session board
 
 abbrev μ-loop : tie.MeasureT-loop
 μ-loop input₀ board₀ out₀ session₀ turns₀ input board out session turns = turns
@@ -16,7 +18,7 @@ new-requires : tie.Need-new-requires Inv-loop μ-loop
 new-requires c κs = tt
 
 loop-holds : tie.Need-loop-holds Inv-loop μ-loop
-loop-holds c = search needs
+loop-holds c = (omega arith, rw (← c .new .ensures) (at-first _ _))
 
 take-turn-requires : tie.Need-take-turn-requires Inv-loop μ-loop
 take-turn-requires c κs = tt
@@ -31,7 +33,7 @@ same-length-3 : tie.Need-same-length-3 Inv-loop μ-loop
 same-length-3 c = omega (arith, c .before .before .before .before .before .before .before .before .before .take-turn .kept .1 .0, c .before .before .before .before .before .before .before .before .before .take-turn .kept .1 .1 .0, c .before .before .before .before .before .before .before .before .before .take-turn .kept .1 .1 .1 .0)
 
 returns : tie.Need-returns Inv-loop μ-loop
-returns c = tt
+returns c = follows-served _ _ _ (then _ _ _ _ _ _ (c .before .before .before .before .before .before .before .before .before .before .before .before .before .before .loop .inv .1) (c .before .before .before .before .before .before .before .before .before .take-turn .ensures))
 
 sub-turns : tie.Need-sub-turns Inv-loop μ-loop
 sub-turns c = omega arith
@@ -40,7 +42,7 @@ loop-less : tie.Need-loop-less Inv-loop μ-loop
 loop-less c = omega arith
 
 loop-again : tie.Need-loop-again Inv-loop μ-loop
-loop-again c = omega (arith, c .before .before .before .before .before .before .before .before .before .take-turn .kept .1 .0, c .before .before .before .before .before .before .before .before .before .take-turn .kept .1 .1 .0, c .before .before .before .before .before .before .before .before .before .take-turn .kept .1 .1 .1 .0)
+loop-again c = (omega (arith, c .before .before .before .before .before .before .before .before .before .take-turn .kept .1 .0, c .before .before .before .before .before .before .before .before .before .take-turn .kept .1 .1 .0, c .before .before .before .before .before .before .before .before .before .take-turn .kept .1 .1 .1 .0), then _ _ _ _ _ _ (c .before .before .before .before .before .before .before .before .before .before .before .before .before .before .loop .inv .1) (c .before .before .before .before .before .before .before .before .before .take-turn .ensures))
 
 same-length-4 : tie.Need-same-length-4 Inv-loop μ-loop
 same-length-4 c = omega arith
@@ -52,7 +54,7 @@ same-length-6 : tie.Need-same-length-6 Inv-loop μ-loop
 same-length-6 c = omega arith
 
 returns-2 : tie.Need-returns-2 Inv-loop μ-loop
-returns-2 c = tt
+returns-2 c = follows-served _ _ _ (c .before .loop .inv .1)
 
 pub talk-spec : {M : Type 1} → statement M
 talk-spec =

@@ -1,0 +1,2 @@
+-- Nothing above this crate cites a law of it.
+mod Hearing
