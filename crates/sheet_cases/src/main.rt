@@ -480,59 +480,74 @@ fn next_case(text: &[u8], at: usize, board: &mut [u16; 4095], sheet: &mut [u8; 9
     entries.next
 }
 
-fn run_saved(text: &[u8], at: usize, board: &mut [u16; 4095], sheet: &mut [u8; 9216]) -> usize
+// The kinds of rows: a capacity whose boards are saved and read back, a save, a read.
+const SAVED: u16 = 0;
+
+const SAVE: u16 = 1;
+
+const READ: u16 = 2;
+
+fn show_head(kind: u16) {
+    if kind == SAVED {
+        io::write_all(
+            STDOUT_FILENO,
+            b"saved and read back: C, leaves, answer, bytes, mark of the bytes; answer, C, p, entries set, leaves kept\n",
+        );
+    }
+    if kind == SAVE {
+        io::write_all(
+            STDOUT_FILENO,
+            b"save: C, p, leaves, entries, bytes lent; answer, bytes, C, p, mark of the output\n",
+        );
+    }
+    if kind == READ {
+        io::write_all(
+            STDOUT_FILENO,
+            b"read: C, leaves, number changed to, number changed to, sums mended, bytes read, entries lent; answer, C, p, entries set\n",
+        );
+    }
+}
+
+fn next_row(
+    kind: u16,
+    text: &[u8],
+    at: usize,
+    board: &mut [u16; 4095],
+    sheet: &mut [u8; 9216],
+) -> usize
     requires { ⌜ at ≤ length (now text) ⌝ }
     ensures { λ r. ⌜ r ≤ length (now (text .entry)) ⌝ }
 {
-    io::write_all(
-        STDOUT_FILENO,
-        b"saved and read back: C, leaves, answer, bytes, mark of the bytes; answer, C, p, entries set, leaves kept\n",
-    );
-    let count = next_number(text, at);
-    let n = count.value;
-    let mut next = count.next;
-    let mut i: u16 = 0;
-    while i < n {
-        next = next_capacity(text, next, board, sheet);
-        i += 1;
+    if kind == SAVED {
+        return next_capacity(text, at, board, sheet);
     }
-    next
+    if kind == SAVE {
+        return next_try(text, at, board, sheet);
+    }
+    next_case(text, at, board, sheet)
 }
 
-fn run_tries(text: &[u8], at: usize, board: &mut [u16; 4095], sheet: &mut [u8; 9216]) -> usize
+// The rows of one kind: how many there are, and then each.
+fn run_rows(
+    kind: u16,
+    text: &[u8],
+    at: usize,
+    board: &mut [u16; 4095],
+    sheet: &mut [u8; 9216],
+) -> usize
     requires { ⌜ at ≤ length (now text) ⌝ }
     ensures { λ r. ⌜ r ≤ length (now (text .entry)) ⌝ }
 {
-    io::write_all(
-        STDOUT_FILENO,
-        b"save: C, p, leaves, entries, bytes lent; answer, bytes, C, p, mark of the output\n",
-    );
+    show_head(kind);
     let count = next_number(text, at);
     let n = count.value;
     let mut next = count.next;
     let mut i: u16 = 0;
     while i < n {
-        next = next_try(text, next, board, sheet);
+        next = next_row(kind, text, next, board, sheet);
         i += 1;
     }
     next
-}
-
-fn run_cases(text: &[u8], at: usize, board: &mut [u16; 4095], sheet: &mut [u8; 9216])
-    requires { ⌜ at ≤ length (now text) ⌝ }
-{
-    io::write_all(
-        STDOUT_FILENO,
-        b"read: C, leaves, number changed to, number changed to, sums mended, bytes read, entries lent; answer, C, p, entries set\n",
-    );
-    let count = next_number(text, at);
-    let n = count.value;
-    let mut next = count.next;
-    let mut i: u16 = 0;
-    while i < n {
-        next = next_case(text, next, board, sheet);
-        i += 1;
-    }
 }
 
 // How many of the lengths from 0 to 9,216, taken one by one, read answers so.
@@ -590,9 +605,9 @@ fn blank_sheet() -> [u8; 9216] {
 }
 
 fn run(text: &[u8], board: &mut [u16; 4095], sheet: &mut [u8; 9216]) {
-    let tries = run_saved(text, 0, board, sheet);
-    let cases = run_tries(text, tries, board, sheet);
-    run_cases(text, cases, board, sheet);
+    let saves = run_rows(SAVED, text, 0, board, sheet);
+    let reads = run_rows(SAVE, text, saves, board, sheet);
+    run_rows(READ, text, reads, board, sheet);
     run_changes(board, sheet);
     run_lengths(board, sheet);
 }
