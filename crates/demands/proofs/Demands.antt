@@ -1,7 +1,7 @@
 -- The demands, each by its name: demand 1, and the board and the slot order of demand 2, for every call and every input; demand 3 for every history from an
 -- opened board. What they ask of save and read stands in `sheets`, proofs/Laws.
 -- Assumes nothing.
-use mathlib.Core.Path.{_≡_, refl, sym, ap, ap₂, _∙_}
+use mathlib.Core.Path.{_≡_, refl, sym, ap, ap₂, subst, _∙_}
 use mathlib.Core.Bool.{true, cond}
 use mathlib.Core.List.{List, [], _∷_, _++_}
 use Prim.Native.Nat.{ℕ, zero, _+_, _-_, _*_, _≤_, _<_}
@@ -30,7 +30,7 @@ use Rattle.demands.specs.Rounds.{namesFrom, FullRound, InTurn, inARow, t
 use Rattle.demands.proofs.Checks.{clash}
 use Rattle.demands.proofs.Answering.{by-first, clear-number, done-idle}
 use Rattle.demands.proofs.Valid.{Valid, stateAt, slot-clear, clear-valid}
-use Rattle.demands.proofs.Reached.{Reached, after-one, opened-clear, always}
+use Rattle.demands.proofs.Reached.{Sound, after-one, opened-clear, always}
 use Rattle.demands.proofs.Rows.{full-names, moves, slots-full}
 use Rattle.demands.proofs.Standing.{never-damaged, midround, others-pass, room, served-round, served-fair}
 
@@ -71,7 +71,7 @@ pub demand-1-open : (C : ℕ) (B : List ℕ)
 unfolding openCheck
 demand-1-open C B =
     let done = idleBoard C B in
-    let t = by-first openMay (askedOpen C B) [] (λ c. record { drive = ifClear c (driveAt C 1) (driveAt 0 0); board = ifClear c done B } ≡ stateAt 0 0 B) (λ c. C ≡ C) (λ r. refl) (λ r. refl) in
+    let t = by-first openMay (askedOpen C B) [] (λ c. record { drive = ifClear c (driveAt C 1) (driveAt 0 0); board = ifClear c done B } ≡ stateAt (driveAt 0 0) B) (λ c. C ≡ C) (λ r. refl) (λ r. refl) in
     (t .0, λ n. t .1 n .0)
 
 -- ---- Demand 2, the board
@@ -117,8 +117,8 @@ demand-2-order s rest clear full =
     let d = s .drive in
     let B = s .board in
     let C = d .capacity in
-    let is : Valid C (d .position) B = clear-valid C (d .position) B (clear-number (slotCheck d B) (servedName d B ∷ servedLeaf d ∷ servedPassed d ∷ []) clear) in
-    full-names C (d .position) B rest is full ∙ ap (namesOn B) (round-literal C (is .at .some) (is .at .few))
+    let is : Valid s = clear-valid s (clear-number (slotCheck d B) (servedName d B ∷ servedLeaf d ∷ servedPassed d ∷ []) clear) in
+    full-names s rest is full ∙ ap (namesOn B) (round-literal C (is .at .some) (is .at .few))
 
 -- It ends where the next round starts.
 pub demand-2-ends : (s : State) (rest : List Act) → says Slot s .number ≡ 0 → FullRound s rest → after s (Slot ∷ rest) .drive ≡ s .drive
@@ -145,50 +145,51 @@ demand-3-openable C B = (
 )
 
 module _ (C : ℕ) (B : List ℕ) (may : Openable C B) (acts : List Act) where
-  r : Reached C (reach C B acts) (held C B acts)
+  r : Sound (reach C B acts) (held C B acts)
   r = always C B may acts
+
+  capacity : (acts : List Act) → reach C B acts .drive .capacity ≡ C
+  capacity acts = moves (opens C B) acts .0 ∙ rw (opened-clear C B may) refl
 
   idle-after : (a : Act) → weight (reach C B acts .drive .capacity) (does a (reach C B acts) .board) 0 ≡ C - total (held C B (acts ++ (a ∷ [])))
   idle-after a =
-      let q = always C B may (acts ++ (a ∷ [])) in
-      let e : does a (reach C B acts) ≡ stateAt C (q .p) (q .B) = sym (after-one (opens C B) acts a) ∙ q .is in
-      let c : reach C B acts .drive .capacity ≡ C = ap (λ (t : State). t .drive .capacity) (r .is) in
-      let i = q .holds .idle in
-      rw (e, c) (omega arith)
+      let i = always C B may (acts ++ (a ∷ [])) .idle in
+      let j = rw (capacity (acts ++ (a ∷ []))) at i in
+      rw (← after-one (opens C B) acts a, capacity acts) (omega arith)
 
   -- No answer is DAMAGED,
   pub demand-3-undamaged : (a : Act) → says a (reach C B acts) .number ≡ 5 → ⊥
-  demand-3-undamaged = rw (r .is) (never-damaged C (r .p) (r .B) (held C B acts) (r .holds))
+  demand-3-undamaged = never-damaged (reach C B acts) (held C B acts) r
 
   -- and no slot is refused.
   pub demand-3-slot : says Slot (reach C B acts) .number ≡ 0
-  demand-3-slot = rw (r .is) (rw (slot-clear C (r .p) (r .B) (r .holds .valid)) refl)
+  demand-3-slot = rw (slot-clear (reach C B acts) (r .valid)) refl
 
   -- Within a round an add and a remove are refused for MIDROUND, and change nothing.
   pub demand-3-midround : (a : Act) → isChange a ≡ true → (reach C B acts .drive .position ≡ 1 → ⊥) → (says a (reach C B acts) .number ≡ 4) × (does a (reach C B acts) ≡ reach C B acts)
-  demand-3-midround = rw (r .is) (midround C (r .p) (r .B) (held C B acts) (r .holds))
+  demand-3-midround = midround (reach C B acts) (held C B acts) r
 
   -- The weights held are never more than C,
   pub demand-3-within : total (held C B acts) ≤ C
-  demand-3-within = let i = r .holds .idle in omega arith
+  demand-3-within = let i = r .idle in let c = capacity acts in omega arith
 
   -- and an add that passes the other checks is refused for ROOM exactly when its weight exceeds C less the sum of the weights held; else it is done.
   pub demand-3-room : (x w : ℕ) → firstOf otherChecks (askedAdd (reach C B acts .drive) (reach C B acts .board) x w) ≡ Clear
       → says (Add x w) (reach C B acts) .number ≡ cond (ltb (C - total (held C B acts)) w) 10 0
-  demand-3-room = rw (r .is) (room C (r .p) (r .B) (held C B acts) (r .holds))
+  demand-3-room x w e = room (reach C B acts) (held C B acts) r x w e ∙ ap (λ (n : ℕ). cond (ltb (n - total (held C B acts)) w) 10 0) (capacity acts)
 
   -- At the start of a round an add passes the other checks if it has a name and a weight, and nothing is held of the name.
   pub demand-3-others : (x w : ℕ) → reach C B acts .drive .position ≡ 1 → (x ≡ 0 → ⊥) → (w ≡ 0 → ⊥) → heldOf x (held C B acts) ≡ 0
       → firstOf otherChecks (askedAdd (reach C B acts .drive) (reach C B acts .board) x w) ≡ Clear
-  demand-3-others = rw (r .is) (others-pass C (r .p) (r .B) (held C B acts) (r .holds))
+  demand-3-others = others-pass (reach C B acts) (held C B acts) r
 
   -- What is held of a name is the number of its leaves,
   pub demand-3-held : (x : ℕ) → (x ≡ 0 → ⊥) → heldOf x (held C B acts) ≡ weight C (reach C B acts .board) x
-  demand-3-held x named = rw (r .is) (sym (r .holds .names x named))
+  demand-3-held x named = rw (capacity acts) at (sym (r .names x named))
 
   -- in as many pieces as the weight has ones,
   pub demand-3-pieces : (x : ℕ) → (x ≡ 0 → ⊥) → number C (reach C B acts .board) x ≡ ones (heldOf x (held C B acts))
-  demand-3-pieces x named = rw (r .is) (pieces-ones C (r .B) x (may .few) (r .holds .fine) ∙ ap ones (r .holds .names x named))
+  demand-3-pieces x named = pieces-ones C (reach C B acts .board) x (may .few) (rw (capacity acts) at (r .fine)) ∙ ap ones (sym (demand-3-held x named))
 
   -- and the idle number that an add or a remove returns is C less the sum held after it.
   pub demand-3-idle : (a : Act) → isChange a ≡ true → says a (reach C B acts) .number ≡ 0 → says a (reach C B acts) .values ≡ (C - total (held C B (acts ++ (a ∷ [])))) ∷ []
@@ -209,16 +210,18 @@ module _ (C : ℕ) (B : List ℕ) (may : Openable C B) (acts : List Act) where
 
   -- At the start of a round the next C slots are a full round.
   pub demand-3-full : reach C B acts .drive .position ≡ 1 → FullRound (reach C B acts) (replicate (C - 1) Slot)
-  demand-3-full = rw (r .is) (slots-full C (r .p) (r .B) (r .holds .valid))
+  demand-3-full first = subst (λ (n : ℕ). FullRound (reach C B acts) (replicate (n - 1) Slot)) (capacity acts) (slots-full (reach C B acts) (r .valid) first)
 
   -- In each full round a name is served as often as the weight that it holds at the round's first slot.
   pub demand-3-round : (rest : List Act) → FullRound (reach C B acts) rest → (x : ℕ) → (x ≡ 0 → ⊥) → times x (namesFrom (reach C B acts) rest) ≡ heldOf x (held C B acts)
-  demand-3-round = rw (r .is) (served-round C (r .p) (r .B) (held C B acts) (r .holds))
+  demand-3-round = served-round (reach C B acts) (held C B acts) r
 
   -- In any t successive slots of that round a stream of weight w is served s times, and C s and w t differ by less than m C + w h,
   pub demand-3-fair : (rest : List Act) → FullRound (reach C B acts) rest → (x w i t : ℕ) → heldOf x (held C B acts) ≡ w → zero < w → i + t ≤ C
       → Near (C * times x (inARow i t (namesFrom (reach C B acts) rest))) (w * t) (bound C w)
-  demand-3-fair = rw (r .is) (served-fair C (r .p) (r .B) (held C B acts) (r .holds))
+  demand-3-fair rest full x w i t holds some =
+      subst (λ (n : ℕ). i + t ≤ n → Near (n * times x (inARow i t (namesFrom (reach C B acts) rest))) (w * t) (bound n w)) (capacity acts)
+      (served-fair (reach C B acts) (held C B acts) r rest full x w i t holds some)
 
   -- so by less than the demand's own 2 m C + w h.
   pub demand-3-demanded : (rest : List Act) → FullRound (reach C B acts) rest → (x w i t : ℕ) → heldOf x (held C B acts) ≡ w → zero < w → i + t ≤ C

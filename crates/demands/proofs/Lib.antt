@@ -1,4 +1,4 @@
--- The demands stand in Demands. The rest is inner.
+-- The demands stand in Demands; what crates above cite is Laws. The rest is inner.
 mod Windows
 mod Streams
 mod Checks
@@ -9,4 +9,5 @@ mod Rows
 mod Standing
 mod Promised
 pub mod Demands
+pub mod Laws
 mod Examples

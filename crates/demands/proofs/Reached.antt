@@ -9,7 +9,6 @@ use native.Mathlib.Decide.{ℕ-discrete}
 use lib.Dec.{eqb}
 use lib.ListN.{length, getD, drop, replicate, length-append, length-replicate, getD-replicate, List·getD-append}
 use borrow.Author.Tests.{eq-eqb, ne-eqb, eqb-true}
-use Rattle.sequences.specs.Board.{nextFrom}
 use Rattle.sequences.proofs.Laws.{first-position}
 use Rattle.pieces.specs.Board.{good, weight}
 use Rattle.pieces.specs.Placing.{Placeable, placed}
@@ -19,7 +18,7 @@ use Rattle.calls.specs.declared.Check.{Check}
 use Rattle.calls.specs.declared.Check.the-variants.{Clear, Refused}
 use Rattle.calls.specs.Records.{driveAt}
 use Rattle.calls.specs.Refusals.{openCheck, addCheck, removeCheck}
-use Rattle.calls.specs.Results.{idleBoard}
+use Rattle.calls.specs.Results.{idleBoard, movedOn}
 use Rattle.calls.proofs.Laws.{open-sized, add-clear, remove-clear}
 use Rattle.demands.specs.Histories.{Act, Add, Remove, Slot, Round, Report, State, Openable, does, says, after, reach, log}
 use Rattle.demands.specs.Holdings.{Stream, without, changed, heldFrom, held, heldOf, total}
@@ -27,18 +26,12 @@ use Rattle.demands.proofs.Checks.{number-some}
 use Rattle.demands.proofs.Valid.{Valid, stateAt, slot-clear, valid-next}
 
 -- The board is good, and every name has as many leaves as it holds.
-pub record Sound (C p : ℕ) (B : List ℕ) (hs : List Stream) : Type 0 where
-  pub valid : Valid C p B
-  pub fine : good C B ≡ true
-  pub idle : weight C B 0 + total hs ≡ C
-  pub names : (x : ℕ) → (x ≡ 0 → ⊥) → weight C B x ≡ heldOf x hs
+pub record Sound (s : State) (hs : List Stream) : Type 0 where
+  pub valid : Valid s
+  pub fine : good (s .drive .capacity) (s .board) ≡ true
+  pub idle : weight (s .drive .capacity) (s .board) 0 + total hs ≡ s .drive .capacity
+  pub names : (x : ℕ) → (x ≡ 0 → ⊥) → weight (s .drive .capacity) (s .board) x ≡ heldOf x hs
   pub nameless : heldOf 0 hs ≡ 0
-
-pub record Reached (C : ℕ) (s : State) (hs : List Stream) : Type 0 where
-  pub p : ℕ
-  pub B : List ℕ
-  pub is : s ≡ stateAt C p B
-  pub holds : Sound C p B hs
 
 -- what is held after one act
 abbrev next : Act → State → List Stream → List Stream
@@ -79,8 +72,14 @@ same-either : (b : Bool) (hs : List Stream) → cond b hs hs ≡ hs
 same-either true hs = refl
 same-either false hs = refl
 
-module _ (C p : ℕ) (B : List ℕ) (hs : List Stream) (is : Sound C p B hs) where
-  added : (x w : ℕ) → Placeable C B x w → Sound C p (placed C B x w) (changed (Add x w) hs)
+module _ (s : State) (hs : List Stream) (is : Sound s hs) where
+  abbrev C : ℕ
+  C = s .drive .capacity
+
+  abbrev B : List ℕ
+  B = s .board
+
+  added : (x w : ℕ) → Placeable C B x w → Sound (stateAt (s .drive) (placed C B x w)) (changed (Add x w) hs)
   unfolding total heldOf
   added x w m =
       let i = placed-idle C B x w m in
@@ -96,7 +95,7 @@ module _ (C p : ℕ) (B : List ℕ) (hs : List Stream) (is : Sound C p B hs) whe
         nameless = rw (ne-eqb x 0 (m .named)) (let z = is .nameless in omega arith);
       }
 
-  cleared : (x : ℕ) → Removable C B x → Sound C p (removed C B x) (changed (Remove x) hs)
+  cleared : (x : ℕ) → Removable C B x → Sound (stateAt (s .drive) (removed C B x)) (changed (Remove x) hs)
   cleared x m =
       let i = removed-idle C B x m in
       let j = is .idle in
@@ -113,41 +112,48 @@ module _ (C p : ℕ) (B : List ℕ) (hs : List Stream) (is : Sound C p B hs) whe
         nameless = without-other x 0 hs (λ e. m .named (sym e)) ∙ is .nameless;
       }
 
-  moved : Sound C (nextFrom C p) B hs
-  moved = record { valid = valid-next C p B (is .valid); fine = is .fine; idle = is .idle; names = is .names; nameless = is .nameless }
+  moved : Sound (stateAt (movedOn (s .drive)) (s .board)) hs
+  moved = record { valid = valid-next s (is .valid); fine = is .fine; idle = is .idle; names = is .names; nameless = is .nameless }
 
-  stays : (hs' : List Stream) → hs' ≡ hs → Reached C (stateAt C p B) hs'
-  stays hs' e = record { p = p; B = B; is = refl; holds = rw e is }
+  stays : (hs' : List Stream) → hs' ≡ hs → Sound s hs'
+  stays hs' e = rw e is
 
-  pub step : (a : Act) → Reached C (does a (stateAt C p B)) (next a (stateAt C p B) hs)
-  step (Add x w) = go (addCheck (driveAt C p) B x w) refl
+  pub step : (a : Act) → Sound (does a s) (next a s hs)
+  step (Add x w) = go (addCheck (s .drive) (s .board) x w) refl
     where
-      go : (c : Check) → addCheck (driveAt C p) B x w ≡ c → Reached C (does (Add x w) (stateAt C p B)) (next (Add x w) (stateAt C p B) hs)
-      go Clear e = rw e (record { p = p; B = placed C B x w; is = refl; holds = added x w (add-clear (driveAt C p) B x w e) })
-      go (Refused r) e = rw (e, number-some r) (stays hs refl)
-  step (Remove x) = go (removeCheck (driveAt C p) B x) refl
+      go : (c : Check) → addCheck (s .drive) (s .board) x w ≡ c → Sound (does (Add x w) s) (next (Add x w) s hs)
+      go Clear e = rw e (added x w (add-clear (s .drive) (s .board) x w e))
+      go (Refused r) e = rw (e, number-some r) is
+  step (Remove x) = go (removeCheck (s .drive) (s .board) x) refl
     where
-      go : (c : Check) → removeCheck (driveAt C p) B x ≡ c → Reached C (does (Remove x) (stateAt C p B)) (next (Remove x) (stateAt C p B) hs)
-      go Clear e = rw e (record { p = p; B = removed C B x; is = refl; holds = cleared x (remove-clear (driveAt C p) B x e) })
-      go (Refused r) e = rw (e, number-some r) (stays hs refl)
-  step Slot = rw (slot-clear C p B (is .valid)) (record { p = nextFrom C p; B = B; is = refl; holds = moved })
-  step (Round O) = stays (next (Round O) (stateAt C p B) hs) (same-either (eqb (says (Round O) (stateAt C p B) .number) 0) hs)
-  step (Report x) = stays (next (Report x) (stateAt C p B) hs) (same-either (eqb (says (Report x) (stateAt C p B) .number) 0) hs)
+      go : (c : Check) → removeCheck (s .drive) (s .board) x ≡ c → Sound (does (Remove x) s) (next (Remove x) s hs)
+      go Clear e = rw e (cleared x (remove-clear (s .drive) (s .board) x e))
+      go (Refused r) e = rw (e, number-some r) is
+  step Slot = rw (slot-clear s (is .valid)) moved
+  step (Round O) = stays (next (Round O) s hs) (same-either (eqb (says (Round O) s .number) 0) hs)
+  step (Report x) = stays (next (Report x) s hs) (same-either (eqb (says (Report x) s .number) 0) hs)
 
 -- ---- any acts
 
-pub reached : (C p : ℕ) (B : List ℕ) (hs : List Stream) → Sound C p B hs → (acts : List Act) → Reached C (after (stateAt C p B) acts) (heldFrom hs (log (stateAt C p B) acts))
+pub reached : (s : State) (hs : List Stream) → Sound s hs → (acts : List Act) → Sound (after s acts) (heldFrom hs (log s acts))
 unfolding after heldFrom log
-reached C p B hs is [] = record { p = p; B = B; is = refl; holds = is }
-reached C p B hs is (a ∷ acts) =
-    let r = step C p B hs is a in
-    rw (r .is) (reached C (r .p) (r .B) (next a (stateAt C p B) hs) (r .holds) acts)
+reached s hs is [] = is
+reached s hs is (a ∷ acts) = reached (does a s) (next a s hs) (step s hs is a) acts
 
--- one act more
+-- acts after acts
+pub after-append : (s : State) (acts more : List Act) → after s (acts ++ more) ≡ after (after s acts) more
+unfolding after
+after-append s [] more = refl
+after-append s (a ∷ acts) more = after-append (does a s) acts more
+
 pub after-one : (s : State) (acts : List Act) (a : Act) → after s (acts ++ (a ∷ [])) ≡ does a (after s acts)
 unfolding after
-after-one s [] a = refl
-after-one s (b ∷ acts) a = after-one (does b s) acts a
+after-one s acts a = after-append s acts (a ∷ [])
+
+pub held-append : (hs : List Stream) (s : State) (acts more : List Act) → heldFrom hs (log s (acts ++ more)) ≡ heldFrom (heldFrom hs (log s acts)) (log (after s acts) more)
+unfolding heldFrom log after
+held-append hs s [] more = refl
+held-append hs s (a ∷ acts) more = held-append (next a s hs) (does a s) acts more
 
 -- ---- the opened board
 
@@ -172,7 +178,7 @@ module _ (C : ℕ) (B : List ℕ) (may : Openable C B) where
   unfolding idleBoard
   idle-long = omega (arith, length-append (replicate C 0) (drop C B), length-replicate {A = ℕ} C 0)
 
-  opened : Sound C 1 (idleBoard C B) []
+  pub opened : Sound (stateAt (driveAt C 1) (idleBoard C B)) []
   unfolding total heldOf
   opened = record {
     valid = record { at = first-position C (may .some) (let f = may .few in omega arith); long = idle-long };
@@ -185,5 +191,5 @@ module _ (C : ℕ) (B : List ℕ) (may : Openable C B) where
   pub opened-clear : openCheck C B ≡ Clear
   opened-clear = open-sized C B (record { some = may .some; few = may .few; long = may .long })
 
-  pub always : (acts : List Act) → Reached C (reach C B acts) (held C B acts)
-  always acts = rw opened-clear (reached C 1 (idleBoard C B) [] opened acts)
+  pub always : (acts : List Act) → Sound (reach C B acts) (held C B acts)
+  always acts = rw opened-clear (reached (stateAt (driveAt C 1) (idleBoard C B)) [] opened acts)

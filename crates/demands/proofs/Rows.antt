@@ -1,9 +1,11 @@
 -- The names that the slots of a round serve, whatever other calls stand between them: the leaves of the round, read off the board at its first slot.
 -- Assumes nothing.
-use mathlib.Core.Path.{_≡_, refl, ap, _∙_}
-use mathlib.Core.List.{List, [], _∷_}
+use mathlib.Core.Path.{_≡_, refl, sym, ap, _∙_}
+use mathlib.Core.Bool.{Bool, true, false, cond}
+use mathlib.Core.List.{List, [], _∷_, _++_}
 use Prim.Native.Nat.{ℕ, zero, suc, _+_, _-_, _≤_, _<_}
 use native.Mathlib.Omega.{arith}
+use lib.Dec.{eqb}
 use lib.ListN.{length, getD, take, replicate}
 use Rattle.sequences.specs.Board.{leafAt, servedFrom, nextFrom}
 use Rattle.sequences.specs.Serving.{leavesFrom, afterSlots, countList}
@@ -11,7 +13,8 @@ use Rattle.sequences.proofs.Laws.{after-more-slots}
 use Rattle.calls.specs.declared.Check.{Check}
 use Rattle.calls.specs.declared.Check.the-variants.{Clear, Refused}
 use Rattle.calls.specs.Refusals.{slotCheck}
-use Rattle.demands.specs.Histories.{Act, Add, Remove, Slot, Round, Report, State, does, after, log}
+use Rattle.calls.specs.Results.{servedName, movedOn}
+use Rattle.demands.specs.Histories.{Act, Add, Remove, Slot, Round, Report, State, does, says, after, log}
 use Rattle.demands.specs.Rounds.{names, namesFrom, FullRound, inARow, times, namesOn}
 use Rattle.demands.proofs.Checks.{number-some}
 use Rattle.demands.proofs.Windows.{round-away}
@@ -22,50 +25,71 @@ empty : (l : List ℕ) → length l ≡ 0 → l ≡ []
 empty [] e = refl
 empty (x ∷ l) e = absurd (omega arith)
 
-module _ (C : ℕ) (B : List ℕ) where
-  slot-names : (p : ℕ) (acts : List Act) → Valid C p B
-      → namesFrom (stateAt C p B) acts ≡ getD B (leafAt C (servedFrom C p)) 0 ∷ names (log (stateAt C (nextFrom C p) B) acts)
-  unfolding names log
-  slot-names p acts is = rw (slot-clear C p B is) refl
+-- the names that acts and more acts serve
+pub names-append : (s : State) (acts more : List Act) → names (log s (acts ++ more)) ≡ names (log s acts) ++ names (log (after s acts) more)
+unfolding names log after
+names-append s [] more = refl
+names-append s (Add x w ∷ acts) more = names-append (does (Add x w) s) acts more
+names-append s (Remove x ∷ acts) more = names-append (does (Remove x) s) acts more
+names-append s (Slot ∷ acts) more =
+    let ih = names-append (does Slot s) acts more in
+    go (eqb (says Slot s .number) 0) (names (log (does Slot s) (acts ++ more))) (names (log (does Slot s) acts)) (names (log (after (does Slot s) acts) more)) ih
+  where
+    go : (b : Bool) (later served rest : List ℕ) → later ≡ served ++ rest
+        → cond b (getD (says Slot s .values) 0 0 ∷ later) later ≡ cond b (getD (says Slot s .values) 0 0 ∷ served) served ++ rest
+    go true later served rest e = ap (λ (l : List ℕ). getD (says Slot s .values) 0 0 ∷ l) e
+    go false later served rest e = e
+names-append s (Round O ∷ acts) more = names-append s acts more
+names-append s (Report x ∷ acts) more = names-append s acts more
 
-  -- acts within a round, after slot i: while slots are to come nothing but them changes anything
-  mid : (acts : List Act) (i n : ℕ) → Valid C (afterSlots C 1 i) B → zero < i → i + n ≤ C
-      → length (names (log (stateAt C (afterSlots C 1 i) B) acts)) ≡ n
-      → names (log (stateAt C (afterSlots C 1 i) B) acts) ≡ namesOn B (leavesFrom C (afterSlots C 1 i) n)
-  unfolding names log leavesFrom
-  mid acts i zero is away h l = empty (names (log (stateAt C (afterSlots C 1 i) B) acts)) l
-  mid [] i (suc n) is away h l = absurd (omega arith)
-  mid (Slot ∷ acts) i (suc n) is away h l =
-      let e = slot-names (afterSlots C 1 i) acts is in
-      let g : afterSlots C 1 (suc i) ≡ nextFrom C (afterSlots C 1 i) = after-more-slots C 1 i in
-      let m = valid-next C (afterSlots C 1 i) B is in
-      let l' : length (names (log (stateAt C (nextFrom C (afterSlots C 1 i)) B) acts)) ≡ n = let q = ap (λ (t : List ℕ). length t) e in omega arith in
-      e ∙ ap (λ (t : List ℕ). getD B (leafAt C (servedFrom C (afterSlots C 1 i))) 0 ∷ t) (rw g at (mid acts (suc i) n (rw g m) (omega arith) (omega arith) (rw g l')))
-  mid (Add x w ∷ acts) i (suc n) is away h l =
-      let q = add-midround C (afterSlots C 1 i) B is (round-away C (is .at .some) (is .at .few) i away (omega arith)) x w in
-      rw q (mid acts i (suc n) is away h (rw q at l))
-  mid (Remove x ∷ acts) i (suc n) is away h l =
-      let q = remove-midround C (afterSlots C 1 i) B is (round-away C (is .at .some) (is .at .few) i away (omega arith)) x in
-      rw q (mid acts i (suc n) is away h (rw q at l))
-  mid (Round O ∷ acts) i (suc n) is away h l = mid acts i (suc n) is away h l
-  mid (Report x ∷ acts) i (suc n) is away h l = mid acts i (suc n) is away h l
+-- a slot serves the name on its leaf, and the record moves on
+slot-names : (s : State) (acts : List Act) → Valid s
+    → namesFrom s acts ≡ servedName (s .drive) (s .board) ∷ names (log (stateAt (movedOn (s .drive)) (s .board)) acts)
+unfolding names log
+slot-names s acts is = rw (slot-clear s is) refl
 
-  -- a round from its first slot on
-  pub round-names : (acts : List Act) (n : ℕ) → Valid C 1 B → n ≤ C → length (namesFrom (stateAt C 1 B) acts) ≡ n
-      → namesFrom (stateAt C 1 B) acts ≡ namesOn B (leavesFrom C 1 n)
-  unfolding leavesFrom afterSlots
-  round-names acts zero is h l = empty (namesFrom (stateAt C 1 B) acts) l
-  round-names acts (suc n) is h l =
-      let e = slot-names 1 acts is in
-      let l' : length (names (log (stateAt C (nextFrom C 1) B) acts)) ≡ n = let q = ap (λ (t : List ℕ). length t) e in omega arith in
-      e ∙ ap (λ (t : List ℕ). getD B (leafAt C (servedFrom C 1)) 0 ∷ t) (mid acts 1 n (valid-next C 1 B is) (omega arith) (omega arith) l')
+-- the others of n + 1 slots
+slot-rest : (s : State) (acts : List Act) (n : ℕ) → Valid s → length (namesFrom s acts) ≡ suc n → length (names (log (stateAt (movedOn (s .drive)) (s .board)) acts)) ≡ n
+slot-rest s acts n is l = let q = ap (λ (t : List ℕ). length t) (slot-names s acts is) in omega arith
+
+-- acts within a round, after slot i: while slots are to come nothing but them changes anything
+mid : (s : State) (acts : List Act) (i n : ℕ) → Valid s → s .drive .position ≡ afterSlots (s .drive .capacity) 1 i → zero < i → i + n ≤ s .drive .capacity
+    → length (names (log s acts)) ≡ n
+    → names (log s acts) ≡ namesOn (s .board) (leavesFrom (s .drive .capacity) (s .drive .position) n)
+unfolding names log leavesFrom
+mid s acts i zero is at away h l = empty (names (log s acts)) l
+mid s [] i (suc n) is at away h l = absurd (omega arith)
+mid s (Slot ∷ acts) i (suc n) is at away h l =
+    let C = s .drive .capacity in
+    let p = s .drive .position in
+    let on : nextFrom C p ≡ afterSlots C 1 (suc i) = rw at (sym (after-more-slots C 1 i)) in
+    slot-names s acts is
+    ∙ ap (λ (t : List ℕ). servedName (s .drive) (s .board) ∷ t)
+    (mid (stateAt (movedOn (s .drive)) (s .board)) acts (suc i) n (valid-next s is) on (omega arith) (omega arith) (slot-rest s acts n is l))
+mid s (Add x w ∷ acts) i (suc n) is at away h l =
+    let q = add-midround s is (λ e. round-away (s .drive .capacity) (is .at .some) (is .at .few) i away (omega arith) (sym at ∙ e)) x w in
+    rw q (mid s acts i (suc n) is at away h (rw q at l))
+mid s (Remove x ∷ acts) i (suc n) is at away h l =
+    let q = remove-midround s is (λ e. round-away (s .drive .capacity) (is .at .some) (is .at .few) i away (omega arith) (sym at ∙ e)) x in
+    rw q (mid s acts i (suc n) is at away h (rw q at l))
+mid s (Round O ∷ acts) i (suc n) is at away h l = mid s acts i (suc n) is at away h l
+mid s (Report x ∷ acts) i (suc n) is at away h l = mid s acts i (suc n) is at away h l
+
+-- a round from its first slot on
+round-names : (s : State) (acts : List Act) (n : ℕ) → Valid s → s .drive .position ≡ 1 → n ≤ s .drive .capacity → length (namesFrom s acts) ≡ n
+    → namesFrom s acts ≡ namesOn (s .board) (leavesFrom (s .drive .capacity) (s .drive .position) n)
+unfolding leavesFrom afterSlots
+round-names s acts zero is first h l = empty (namesFrom s acts) l
+round-names s acts (suc n) is first h l =
+    slot-names s acts is
+    ∙ ap (λ (t : List ℕ). servedName (s .drive) (s .board) ∷ t)
+    (mid (stateAt (movedOn (s .drive)) (s .board)) acts 1 n (valid-next s is) (rw first refl) (omega arith) (omega arith) (slot-rest s acts n is l))
 
 -- a full round
-pub full-names : (C p : ℕ) (B : List ℕ) (rest : List Act) → Valid C p B → FullRound (stateAt C p B) rest → namesFrom (stateAt C p B) rest ≡ namesOn B (leavesFrom C 1 C)
-full-names C p B rest is full = go p (full .first) is (let l = full .slots in omega arith)
-  where
-    go : (p : ℕ) → p ≡ 1 → Valid C p B → length (namesFrom (stateAt C p B) rest) ≡ C → namesFrom (stateAt C p B) rest ≡ namesOn B (leavesFrom C 1 C)
-    go p e is l = rw e (round-names C B rest C (rw e at is) (omega arith) (rw e at l))
+pub full-names : (s : State) (rest : List Act) → Valid s → FullRound s rest → namesFrom s rest ≡ namesOn (s .board) (leavesFrom (s .drive .capacity) 1 (s .drive .capacity))
+full-names s rest is full =
+    round-names s rest (s .drive .capacity) is (full .first) (omega arith) (let l = full .slots in omega arith)
+    ∙ ap (λ (p : ℕ). namesOn (s .board) (leavesFrom (s .drive .capacity) p (s .drive .capacity))) (full .first)
 
 -- ---- how far slots move a record
 
@@ -90,15 +114,16 @@ moves s (Slot ∷ acts) = go (slotCheck (s .drive) (s .board)) refl (moves (does
     go (Refused r) e ih = rw (e, number-some r) (rw e at ih)
 
 -- n slots serve n names
-slots-length : (C p : ℕ) (B : List ℕ) (n : ℕ) → Valid C p B → length (names (log (stateAt C p B) (replicate n Slot))) ≡ n
+slots-length : (s : State) (n : ℕ) → Valid s → length (names (log s (replicate n Slot))) ≡ n
 unfolding names log
-slots-length C p B zero is = refl
-slots-length C p B (suc n) is = rw (slot-names C B p (replicate n Slot) is, slots-length C (nextFrom C p) B n (valid-next C p B is)) refl
+slots-length s zero is = refl
+slots-length s (suc n) is = rw (slot-names s (replicate n Slot) is, slots-length (stateAt (movedOn (s .drive)) (s .board)) n (valid-next s is)) refl
 
-pub slots-full : (C p : ℕ) (B : List ℕ) → Valid C p B → p ≡ 1 → FullRound (stateAt C p B) (replicate (C - 1) Slot)
-slots-full C p B is first =
-    let n : suc (C - 1) ≡ C = let s = is .at .some in omega arith in
-    record { first = first; slots = slots-length C p B (suc (C - 1)) is ∙ n }
+pub slots-full : (s : State) → Valid s → s .drive .position ≡ 1 → FullRound s (replicate (s .drive .capacity - 1) Slot)
+slots-full s is first =
+    let C = s .drive .capacity in
+    let n : suc (C - 1) ≡ C = let z = is .at .some in omega arith in
+    record { first = first; slots = slots-length s (suc (C - 1)) is ∙ n }
 
 -- ---- slots in a row
 

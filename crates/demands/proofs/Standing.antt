@@ -13,33 +13,38 @@ use Rattle.pieces.specs.Board.{good, weight, number}
 use Rattle.calls.specs.declared.Drive.{Drive}
 use Rattle.calls.specs.declared.Refusal.the-variants.{Midround, Damaged, Name, Weight, Taken, Room}
 use Rattle.calls.specs.declared.Check.the-variants.{Clear}
-use Rattle.calls.specs.Records.{driveAt}
 use Rattle.calls.specs.Refusals.{firstOf, applies, asked, askedAdd, askedName, askedOutput, addMay, removeMay, slotMay, roundMay, reportMay, addCheck, removeCheck, slotCheck, roundCheck, reportCheck}
 use Rattle.calls.specs.Results.{addedIdle, removedIdle, servedName, servedLeaf, servedPassed, reportedSpacing}
-use Rattle.demands.specs.Histories.{Act, Add, Remove, Slot, Round, Report, does, says}
+use Rattle.demands.specs.Histories.{Act, Add, Remove, Slot, Round, Report, State, does, says}
 use Rattle.demands.specs.Refusing.{otherChecks}
 use Rattle.demands.specs.Holdings.{Stream, isChange, heldOf, total}
 use Rattle.demands.specs.Rounds.{namesFrom, FullRound, inARow, times, Near, bound}
 use Rattle.demands.proofs.Checks.{clash, none-applies, first-after}
 use Rattle.demands.proofs.Answering.{undamaged, room-number}
-use Rattle.demands.proofs.Valid.{stateAt, slot-clear, add-midround, remove-midround}
+use Rattle.demands.proofs.Valid.{slot-clear, add-midround, remove-midround}
 use Rattle.demands.proofs.Reached.{Sound}
 use Rattle.demands.proofs.Rows.{full-names, row, times-on}
 use Rattle.demands.proofs.Streams.{stream-fair, stream-round}
 
-module _ (C p : ℕ) (B : List ℕ) (hs : List Stream) (is : Sound C p B hs) where
+module _ (s : State) (hs : List Stream) (is : Sound s hs) where
+  abbrev C : ℕ
+  C = s .drive .capacity
+
+  abbrev B : List ℕ
+  B = s .board
+
   -- no answer is DAMAGED
-  pub never-damaged : (a : Act) → says a (stateAt C p B) .number ≡ 5 → ⊥
+  pub never-damaged : (a : Act) → says a s .number ≡ 5 → ⊥
   unfolding addCheck removeCheck slotCheck roundCheck reportCheck
   never-damaged a = go a
     where
       d : Drive
-      d = driveAt C p
+      d = s .drive
 
       fine : not (good C B) ≡ false
       fine = ap not (is .fine)
 
-      go : (a : Act) → says a (stateAt C p B) .number ≡ 5 → ⊥
+      go : (a : Act) → says a s .number ≡ 5 → ⊥
       go (Add x w) = undamaged addMay (askedAdd d B x w) (addedIdle d B x w ∷ []) fine
       go (Remove x) = undamaged removeMay (askedName d B x) (removedIdle d B x ∷ []) fine
       go Slot = undamaged slotMay (asked d B) (servedName d B ∷ servedLeaf d ∷ servedPassed d ∷ []) fine
@@ -47,20 +52,20 @@ module _ (C p : ℕ) (B : List ℕ) (hs : List Stream) (is : Sound C p B hs) whe
       go (Report x) = undamaged reportMay (askedName d B x) (weight C B x ∷ number C B x ∷ reportedSpacing d B x ∷ []) fine
 
   -- away from position 1 a change is refused for MIDROUND
-  pub midround : (a : Act) → isChange a ≡ true → (p ≡ 1 → ⊥) → (says a (stateAt C p B) .number ≡ 4) × (does a (stateAt C p B) ≡ stateAt C p B)
-  midround (Add x w) e away = rw (add-midround C p B (is .valid) away x w) (refl, refl)
-  midround (Remove x) e away = rw (remove-midround C p B (is .valid) away x) (refl, refl)
+  pub midround : (a : Act) → isChange a ≡ true → (s .drive .position ≡ 1 → ⊥) → (says a s .number ≡ 4) × (does a s ≡ s)
+  midround (Add x w) e away = rw (add-midround s (is .valid) away x w) (refl, refl)
+  midround (Remove x) e away = rw (remove-midround s (is .valid) away x) (refl, refl)
   midround Slot e away = clash e refl
   midround (Round O) e away = clash e refl
   midround (Report x) e away = clash e refl
 
   -- at position 1 an add of a new name passes the checks beside ROOM
-  pub others-pass : (x w : ℕ) → p ≡ 1 → (x ≡ 0 → ⊥) → (w ≡ 0 → ⊥) → heldOf x hs ≡ 0 → firstOf otherChecks (askedAdd (driveAt C p) B x w) ≡ Clear
+  pub others-pass : (x w : ℕ) → s .drive .position ≡ 1 → (x ≡ 0 → ⊥) → (w ≡ 0 → ⊥) → heldOf x hs ≡ 0 → firstOf otherChecks (askedAdd (s .drive) (s .board) x w) ≡ Clear
   unfolding slotCheck applies
   others-pass x w start named some free =
-      let q = askedAdd (driveAt C p) B x w in
+      let q = askedAdd (s .drive) B x w in
       let z : weight C B x ≡ 0 = is .names x named ∙ free in
-      first-after q slotMay (Midround ∷ Damaged ∷ Name ∷ Weight ∷ Taken ∷ []) (slot-clear C p B (is .valid))
+      first-after q slotMay (Midround ∷ Damaged ∷ Name ∷ Weight ∷ Taken ∷ []) (slot-clear s (is .valid))
       ∙ none-applies q Midround (Damaged ∷ Name ∷ Weight ∷ Taken ∷ []) (rw start refl)
       (none-applies q Damaged (Name ∷ Weight ∷ Taken ∷ []) (ap not (is .fine))
       (none-applies q Name (Weight ∷ Taken ∷ []) (ne-eqb x 0 named)
@@ -68,23 +73,24 @@ module _ (C p : ℕ) (B : List ℕ) (hs : List Stream) (is : Sound C p B hs) whe
       (none-applies q Taken [] (rw z refl) refl))))
 
   -- and then ROOM goes by what is held
-  pub room : (x w : ℕ) → firstOf otherChecks (askedAdd (driveAt C p) B x w) ≡ Clear → says (Add x w) (stateAt C p B) .number ≡ cond (ltb (C - total hs) w) 10 0
+  pub room : (x w : ℕ) → firstOf otherChecks (askedAdd (s .drive) (s .board) x w) ≡ Clear → says (Add x w) s .number ≡ cond (ltb (s .drive .capacity - total hs) w) 10 0
   unfolding addCheck
   room x w e =
       let i : C - total hs ≡ weight C B 0 = let j = is .idle in omega arith in
-      rw (first-after (askedAdd (driveAt C p) B x w) otherChecks (Room ∷ []) e, i) (room-number (ltb (weight C B 0) w) (addedIdle (driveAt C p) B x w ∷ []))
+      rw (first-after (askedAdd (s .drive) B x w) otherChecks (Room ∷ []) e, i) (room-number (ltb (weight C B 0) w) (addedIdle (s .drive) B x w ∷ []))
 
-  module _ (rest : List Act) (full : FullRound (stateAt C p B) rest) where
+  module _ (rest : List Act) (full : FullRound s rest) where
     -- a full round serves a name as often as it holds
-    pub served-round : (x : ℕ) → (x ≡ 0 → ⊥) → times x (namesFrom (stateAt C p B) rest) ≡ heldOf x hs
+    pub served-round : (x : ℕ) → (x ≡ 0 → ⊥) → times x (namesFrom s rest) ≡ heldOf x hs
     served-round x named =
-        rw (full-names C p B rest (is .valid) full)
+        rw (full-names s rest (is .valid) full)
         (times-on B x (leavesFrom C 1 C) ∙ stream-round C B x (is .valid .at .some) (is .valid .at .few) ∙ is .names x named)
 
     -- and slots in a row of it serve the name its share
-    pub served-fair : (x w i t : ℕ) → heldOf x hs ≡ w → zero < w → i + t ≤ C → Near (C * times x (inARow i t (namesFrom (stateAt C p B) rest))) (w * t) (bound C w)
+    pub served-fair : (x w i t : ℕ) → heldOf x hs ≡ w → zero < w → i + t ≤ s .drive .capacity
+        → Near (s .drive .capacity * times x (inARow i t (namesFrom s rest))) (w * t) (bound (s .drive .capacity) w)
     served-fair x w i t holds some within =
         let named : x ≡ 0 → ⊥ = λ e. let z : heldOf x hs ≡ 0 = ap (λ (y : ℕ). heldOf y hs) e ∙ is .nameless in omega arith in
         let e : weight C B x ≡ w = is .names x named ∙ holds in
         let f = rw e at (stream-fair C B x (is .valid .at .some) (is .valid .at .few) i t within (is .fine) (omega arith)) in
-        rw (full-names C p B rest (is .valid) full, row C 1 C i t B within, times-on B x (leavesFrom C (afterSlots C 1 i) t)) (omega arith)
+        rw (full-names s rest (is .valid) full, row C 1 C i t B within, times-on B x (leavesFrom C (afterSlots C 1 i) t)) (omega arith)
