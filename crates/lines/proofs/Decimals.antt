@@ -55,10 +55,15 @@ sets-append l i (v ∷ vs) ws = rw (add-suc, ← suc-add) (sets-append (set l i 
 
 -- ---- values and lines
 
--- a value has at most five digits
-pub field-length : (n : ℕ) → n < 65536 → length (field n) ≤ 6
+-- a value below 10^(k+1) has at most k + 1 digits, after a space
+pub field-length : (k n : ℕ) → n < 10 ^ suc k → length (field n) ≤ suc (suc k)
 unfolding field
-field-length n h = omega (arith, decimal-length 4 n (omega arith))
+field-length k n h = omega (arith, decimal-length k n h)
+
+-- one value
+pub fields-one : (n : ℕ) → fields (n ∷ []) ≡ field n
+unfolding fields
+fields-one n = append-nil (field n)
 
 pub fields-append : (ns : List ℕ) (n : ℕ) → fields (ns ++ (n ∷ [])) ≡ fields ns ++ field n
 unfolding fields

@@ -1,7 +1,9 @@
 -- Lines read and printed by the definitions, computed. Assumes nothing.
 use mathlib.Core.Path.{_≡_, refl}
-use mathlib.Core.List.{[], _∷_}
-use Rattle.lines.specs.Grammar.{words, same, digit, digits, spelled, numeral, alone, withOne, withTwo, command, parsed}
+use mathlib.Core.List.{List, [], _∷_}
+use Prim.Native.Nat.{ℕ}
+use lib.ListN.{length}
+use Rattle.lines.specs.Grammar.{words, same, digit, digits, spelled, numeral, longest, alone, withOne, withTwo, command, parsed}
 use Rattle.lines.specs.Printing.{decimalIn, decimal, field, fields, line}
 use Rattle.lines.specs.declared.Command.the-variants.{Open, Add, Slot, Unknown}
 
@@ -19,6 +21,15 @@ reads :
     × (parsed (97 ∷ 100 ∷ 100 ∷ 32 ∷ 55 ∷ 32 ∷ 53 ∷ []) ≡ Add 7 5)
 unfolding parsed command words alone withOne withTwo same numeral digits digit spelled
 reads = (refl, refl, refl, refl, refl, refl, refl, refl, refl, refl)
+
+-- `add 65535 65535`
+abbrev long : List ℕ
+long = 97 ∷ 100 ∷ 100 ∷ 32 ∷ 54 ∷ 53 ∷ 53 ∷ 51 ∷ 53 ∷ 32 ∷ 54 ∷ 53 ∷ 53 ∷ 51 ∷ 53 ∷ []
+
+-- a command that has as many bytes as the longest
+longest-read : (length long ≡ longest) × (parsed long ≡ Add 65535 65535)
+unfolding parsed command words withTwo same numeral digits digit spelled
+longest-read = (refl, refl)
 
 -- `0 7 0`, `10`, `0 4095`, each with its line feed
 prints :

@@ -1,5 +1,5 @@
 -- The laws of the console's language that others cite.
---   `parsed-kept`, `parsed-long`: a line of 16 bytes or more is not understood, so that its first 16 bytes decide what it is.
+--   `parsed-kept`, `parsed-long`: a line that is longer than the longest command is not understood, so that what is kept of it decides what it is.
 --   `console-said`: from its start to the end of the input, the console prints the answers of the input's lines, in order.
 --   `fed-part`, `fed-some`: a feed hears a first part of its input, and with room for a reply at least one byte of it.
 --   `heard-append`, `said-parts`, `left-parts`: what is said of an input is what is said of its parts, one after the other, and so is what it leaves.

@@ -1,4 +1,4 @@
--- No command has more than 15 bytes, so that the first 16 bytes of a line decide what it is. Assumes nothing.
+-- No command is longer than the longest, so that what is kept of a line decides what it is. Assumes nothing.
 use mathlib.Core.Path.{_≡_, refl, sym, ap, _∙_}
 use mathlib.Core.Bool.{Bool, true, false}
 use mathlib.Core.List.{List, [], _∷_}
@@ -8,7 +8,8 @@ use native.Mathlib.Decide.{decLt}
 use lib.Dec.{eqb}
 use lib.ListN.{length, take}
 use lib.Seq.{take-all, length-take-le}
-use Rattle.lines.specs.Grammar.{parted, words, number, openWord, addWord, removeWord, slotWord, roundWord, alone, withOne, withTwo, command, parsed}
+use Rattle.lines.specs.Grammar.{parted, words, mostDigits, number, openWord, addWord, removeWord, slotWord, roundWord, longest, alone, withOne, withTwo, command, parsed}
+use Rattle.lines.specs.Sessions.{keptBytes}
 use Rattle.lines.specs.declared.Command.the-variants.{Unknown}
 use Rattle.lines.specs.declared.reading.Numeral.{Numeral}
 use Rattle.lines.specs.declared.reading.Numeral.the-variants.{Value, Nothing}
@@ -65,34 +66,34 @@ module _ (w : List ℕ) where
   two-long (Value x) Nothing h = refl
   two-long (Value x) (Value y) h = rw (same-short w addWord (λ e. omega arith)) refl
 
-command-long : (ws : List (List ℕ)) → 15 < total ws → command ws ≡ Unknown
+command-long : (ws : List (List ℕ)) → longest < total ws → command ws ≡ Unknown
 unfolding total command withOne withTwo
 command-long [] h = refl
 command-long (w ∷ []) h = alone-long w (omega arith)
 command-long (w ∷ x ∷ []) h =
-    elim (decLt 5 (length x)) [
-      | yes l ↦ rw (numeral-long 5 65535 x l) refl
+    elim (decLt mostDigits (length x)) [
+      | yes l ↦ rw (numeral-long mostDigits 65535 x l) refl
       | no l ↦ one-long w (number x) (omega arith)
     ]
 command-long (w ∷ x ∷ y ∷ []) h =
-    elim (decLt 5 (length x)) [
-      | yes l ↦ rw (numeral-long 5 65535 x l) refl
-      | no l ↦ elim (decLt 5 (length y)) [
-        | yes m ↦ rw (numeral-long 5 65535 y m) (two-none w (number x))
+    elim (decLt mostDigits (length x)) [
+      | yes l ↦ rw (numeral-long mostDigits 65535 x l) refl
+      | no l ↦ elim (decLt mostDigits (length y)) [
+        | yes m ↦ rw (numeral-long mostDigits 65535 y m) (two-none w (number x))
         | no m ↦ two-long w (number x) (number y) (omega arith)
       ]
     ]
 command-long (w ∷ x ∷ y ∷ z ∷ ws) h = refl
 
--- a line of 16 bytes or more is not understood
-pub parsed-long : (s : List ℕ) → 15 < length s → parsed s ≡ Unknown
+-- a line that is longer than the longest command is not understood
+pub parsed-long : (s : List ℕ) → longest < length s → parsed s ≡ Unknown
 unfolding parsed
 parsed-long s h = command-long (words s) (rw (words-total s) h)
 
 -- what is kept of a line decides its command
-pub parsed-kept : (s : List ℕ) → parsed (take 16 s) ≡ parsed s
+pub parsed-kept : (s : List ℕ) → parsed (take keptBytes s) ≡ parsed s
 parsed-kept s =
-    elim (decLt 15 (length s)) [
-      | yes l ↦ parsed-long (take 16 s) (rw (length-take-le 16 s l) (omega arith)) ∙ sym (parsed-long s l)
-      | no l ↦ rw (take-all 16 s (omega arith)) refl
+    elim (decLt longest (length s)) [
+      | yes l ↦ parsed-long (take keptBytes s) (rw (length-take-le keptBytes s l) (omega arith)) ∙ sym (parsed-long s l)
+      | no l ↦ rw (take-all keptBytes s (omega arith)) refl
     ]

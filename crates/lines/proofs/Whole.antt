@@ -16,38 +16,38 @@ use Rattle.lines.specs.declared.hearing.Session.{Session}
 use Rattle.lines.specs.Grammar.{parsed}
 use Rattle.lines.specs.Printing.{blank}
 use Rattle.lines.specs.Replies.{reply, driveAfter, boardAfter}
-use Rattle.lines.specs.Sessions.{started, lineOf, kept, ended, lastOf, Talk, heard, begun}
+use Rattle.lines.specs.Sessions.{keptBytes, started, lineOf, kept, ended, lastOf, Talk, heard, begun}
 use Rattle.lines.specs.Console.{linesAfter, linesOf, answers, heardAll, heardOut}
 use Rattle.lines.proofs.Cuts.{by-bool}
 use Rattle.lines.proofs.Lengths.{parsed-kept}
 
--- the session keeps the first 16 bytes of the line w
+-- the session keeps the start of the line w
 record Keeps (s : Session) (w : List ℕ) : Type 0 where
-  full : length (s .start) ≡ 16
-  count : s .count ≡ min 16 (length w)
-  start : lineOf s ≡ take 16 w
+  full : length (s .start) ≡ keptBytes
+  count : s .count ≡ min keptBytes (length w)
+  start : lineOf s ≡ take keptBytes w
 
-keeps-none : (s : Session) → length (s .start) ≡ 16 → s .count ≡ 0 → Keeps s []
+keeps-none : (s : Session) → length (s .start) ≡ keptBytes → s .count ≡ 0 → Keeps s []
 keeps-none s full none = record { full = full; count = none; start = rw none refl }
 
 -- one byte more
 keeps-more : (s : Session) (w : List ℕ) (b : ℕ) → Keeps s w → Keeps (kept s b) (w ++ (b ∷ []))
 keeps-more s w b k =
-    elim (decLt (s .count) 16) [
-      | yes l ↦ (let short : length w < 16 = omega (arith, k .count) in
-          rw (lt-ltb (s .count) 16 l)
+    elim (decLt (s .count) keptBytes) [
+      | yes l ↦ (let short : length w < keptBytes = omega (arith, k .count) in
+          rw (lt-ltb (s .count) keptBytes l)
           (record {
             full = rw length-set (k .full);
             count = rw length-append (omega (arith, k .count));
             start =
-                rw (add-one, take-suc-set (s .start) (s .count) b (omega (arith, k .full)), k .start, take-all 16 w (omega arith), take-all 16 (w ++ (b ∷ [])) (rw length-append (omega arith))) refl;
+                rw (add-one, take-suc-set (s .start) (s .count) b (omega (arith, k .full)), k .start, take-all keptBytes w (omega arith), take-all keptBytes (w ++ (b ∷ [])) (rw length-append (omega arith))) refl;
           }))
-      | no l ↦ (let long : 16 ≤ length w = omega (arith, k .count) in
-          rw (le-ltb (s .count) 16 (omega arith))
+      | no l ↦ (let long : keptBytes ≤ length w = omega (arith, k .count) in
+          rw (le-ltb (s .count) keptBytes (omega arith))
           (record {
             full = k .full;
             count = rw length-append (omega (arith, k .count));
-            start = k .start ∙ sym (take-append-le 16 w (b ∷ []) long);
+            start = k .start ∙ sym (take-append-le keptBytes w (b ∷ []) long);
           }))
     ]
 
@@ -89,7 +89,7 @@ unfolding heardOut heardAll
 out-more t b s = refl
 
 kept-drive : (s : Session) (b : ℕ) → kept s b .drive ≡ s .drive
-kept-drive s b = by-bool (ltb (s .count) 16) (λ e. rw e refl) (λ e. rw e refl)
+kept-drive s b = by-bool (ltb (s .count) keptBytes) (λ e. rw e refl) (λ e. rw e refl)
 
 -- the end of the input
 at-end : (t : Talk) (w : List ℕ) → Keeps (t .session) w → heardOut t [] .said ≡ t .said ++ answers (t .session .drive) (t .board) (linesAfter w [])

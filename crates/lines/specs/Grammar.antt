@@ -2,7 +2,7 @@
 -- Assumes nothing.
 use mathlib.Core.Bool.{Bool, true, false, cond, _&&_}
 use mathlib.Core.List.{List, [], _∷_}
-use Prim.Native.Nat.{ℕ, suc, _+_, _-_, _*_}
+use Prim.Native.Nat.{ℕ, suc, _+_, _-_, _*_, max}
 use lib.Dec.{leb, eqb}
 use lib.ListN.{length}
 use Rattle.lines.specs.declared.Command.{Command}
@@ -53,8 +53,11 @@ numeral most limit w =
     cond (leb 1 (length w) && leb (length w) most && digits w && leb (spelled 0 w) limit) (Value (spelled 0 w)) Nothing
 
 -- "numbers have 1 to 5 digits and are at most 65,535"
+abbrev pub mostDigits : ℕ
+mostDigits = 5
+
 abbrev pub number : List ℕ → Numeral
-number w = numeral 5 65535 w
+number w = numeral mostDigits 65535 w
 
 -- the words `open`, `add`, `remove`, `slot`, `round`
 abbrev pub openWord : List ℕ
@@ -71,6 +74,15 @@ slotWord = 115 ∷ 108 ∷ 111 ∷ 116 ∷ []
 
 abbrev pub roundWord : List ℕ
 roundWord = 114 ∷ 111 ∷ 117 ∷ 110 ∷ 100 ∷ []
+
+-- how many bytes a line has of a word and n numbers, each with the most digits and a space before it
+abbrev pub span : List ℕ → ℕ → ℕ
+span w n = length w + n * (1 + mostDigits)
+
+-- how many bytes the longest command has
+abbrev pub longest : ℕ
+longest =
+    max (max (max (span openWord 1) (span addWord 2)) (max (span removeWord 1) (span slotWord 0))) (span roundWord 0)
 
 -- `slot`, `round`
 unfoldable pub alone : List ℕ → Command

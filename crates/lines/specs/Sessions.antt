@@ -3,7 +3,7 @@
 use mathlib.Core.Path.{_≡_}
 use mathlib.Core.Bool.{cond}
 use mathlib.Core.List.{List, [], _∷_, _++_}
-use Prim.Native.Nat.{ℕ, _+_, _≤_}
+use Prim.Native.Nat.{ℕ, suc, _+_, _≤_}
 use lib.Dec.{leb, ltb, eqb}
 use lib.ListN.{length, take, set}
 use lib.Seq.{sets}
@@ -11,22 +11,26 @@ use Rattle.calls.specs.Records.{driveAt}
 use Rattle.lines.specs.declared.hearing.Session.{Session}
 use Rattle.lines.specs.declared.hearing.Heard.{Heard}
 use Rattle.lines.specs.declared.hearing.Fed.{Fed}
-use Rattle.lines.specs.Grammar.{parsed}
+use Rattle.lines.specs.Grammar.{longest, parsed}
 use Rattle.lines.specs.Printing.{blank}
 use Rattle.lines.specs.Replies.{room, reply, driveAfter, boardAfter}
 
+-- how many bytes of a line are kept: one more than the longest command has, so that of a longer line more is kept than any command has
+abbrev pub keptBytes : ℕ
+keptBytes = suc longest
+
 -- "The console starts with C and p zero", and nothing is heard yet
 abbrev pub started : Session
-started = record { drive = driveAt 0 0; start = blank 16; count = 0 }
+started = record { drive = driveAt 0 0; start = blank keptBytes; count = 0 }
 
--- the line that is being heard, as far as it is kept: its first 16 bytes, which is more than any command has
+-- the line that is being heard, as far as it is kept
 abbrev pub lineOf : Session → List ℕ
 lineOf s = take (s .count) (s .start)
 
--- the session with one byte more of the line; what comes after the first 16 bytes is not kept
+-- the session with one byte more of the line, as long as there is a place for it
 abbrev pub kept : Session → ℕ → Session
 kept s b =
-    cond (ltb (s .count) 16)
+    cond (ltb (s .count) keptBytes)
     (record { drive = s .drive; start = set (s .start) (s .count) b; count = s .count + 1 })
     s
 

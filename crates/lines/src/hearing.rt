@@ -10,14 +10,14 @@ ghost use Rattle.lines.specs.Grammar.{parsed};
 ghost use Rattle.lines.specs.Replies.{room, reply, boardAfter};
 ghost use Rattle.lines.specs.Sessions.{started, lineOf, kept as Sessions·kept, ended, sessionAfter, boardHeard, saidOf, lastOf, Hears, Answered};
 
-// How many bytes of a line are kept. The longest command has one less, so that a longer line is not understood,
-// kept or whole.
+// How many bytes of a line are kept: one more than the longest command has, which is `add` with two numbers of five
+// digits, so that a longer line is not understood, kept or whole.
 const KEPT: usize = 16;
 
 // The drive record, and what is kept of the line that is being heard.
 pub struct Session {
     pub drive: Drive,
-    pub start: [u8; 16],
+    pub start: [u8; KEPT],
     pub count: usize,
 }
 
@@ -41,7 +41,7 @@ impl Session {
     {
         Session {
             drive: Drive::new(0, 0),
-            start: [0u8; 16],
+            start: [0u8; KEPT],
             count: 0,
         }
     }

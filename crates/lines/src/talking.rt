@@ -2,6 +2,7 @@
 use crate::Command;
 use crate::reading::parse;
 use crate::writing::put_line;
+use crate::writing::put_value;
 use calls::Change;
 use calls::Changed;
 use calls::Drive;
@@ -38,7 +39,7 @@ fn tell_refusal(drive: Drive, refusal: Refusal, out: &mut [u8], at: usize) -> St
     let number = refusal.number();
     Stepped {
         drive,
-        to: put_line(out, at, number as usize, &none),
+        to: put_line(out, at, number as u64, &none),
     }
 }
 
@@ -69,13 +70,10 @@ fn tell_change(changed: Changed, out: &mut [u8], at: usize) -> Stepped
     let drive = changed.drive;
     let answer = changed.answer;
     match answer {
-        Change::Done(idle) => {
-            let values = [idle];
-            Stepped {
-                drive,
-                to: put_line(out, at, 0, &values),
-            }
-        }
+        Change::Done(idle) => Stepped {
+            drive,
+            to: put_value(out, at, 0, idle as u64),
+        },
         Change::Refused(r) => tell_refusal(drive, r, out, at),
     }
 }

@@ -5,6 +5,7 @@ use lib.ListN.{length}
 use lib.Seq.{length-take-le}
 use borrow.Author.Needs.{needs}
 use Rattle.lines.specs.Grammar.{parsed}
+use Rattle.lines.specs.Sessions.{keptBytes}
 use Rattle.lines.proofs.Keeping.{take-least, ended-hears}
 use Rattle.lines.proofs.hearing.end_line.Statement.{statement}
 use Rattle.lines.proofs.hearing.end_line.Tie as tie
@@ -13,10 +14,10 @@ least-requires : tie.Need-least-requires
 least-requires c κs = search needs
 
 array-share-prefix-start : tie.Need-array-share-prefix-start
-array-share-prefix-start c = let full : length (c .before .before .before .before .before .args .s .start) ≡ 16 = search needs in omega (arith, c .least .ensures)
+array-share-prefix-start c = let full : length (c .before .before .before .before .before .args .s .start) ≡ keptBytes = search needs in omega (arith, c .least .ensures)
 
 slice-aggregate-parse : tie.Need-slice-aggregate-parse
-slice-aggregate-parse c = let full : length (c .before .before .before .before .before .before .args .s .start) ≡ 16 = search needs in sym (length-take-le _ _ (omega (arith, c .before .least .ensures)))
+slice-aggregate-parse c = let full : length (c .before .before .before .before .before .before .args .s .start) ≡ keptBytes = search needs in sym (length-take-le _ _ (omega (arith, c .before .least .ensures)))
 
 parse-requires : tie.Need-parse-requires
 parse-requires c κs = search needs
@@ -32,9 +33,9 @@ same-length-2 c = search needs
 
 returns : tie.Need-returns
 returns c = let s = c .before .before .before .before .before .before .before .before .before .before .before .before .before .before .before .args .s in
-    let full : length (s .start) ≡ 16 = search needs in
+    let full : length (s .start) ≡ keptBytes = search needs in
     ended-hears s _ _ _ _ _ _ _
-    (c .before .before .before .before .before .before .before .before .parse .ensures ∙ rw (c .before .before .before .before .before .before .before .before .before .before .least .ensures) (ap parsed (take-least (s .count) 16 (s .start) full)))
+    (c .before .before .before .before .before .before .before .before .parse .ensures ∙ rw (c .before .before .before .before .before .before .before .before .before .before .least .ensures) (ap parsed (take-least (s .count) keptBytes (s .start) full)))
     (c .before .before .before .before .before .answer .ensures)
 
 pub end-line-spec : {M : Type 1} → statement M

@@ -8,11 +8,11 @@ use Rattle.lines.proofs.talking.tell_change.Tie as tie
 enum-known-answer : tie.Need-enum-known-answer
 enum-known-answer c = search needs
 
-slice-aggregate-put-line : tie.Need-slice-aggregate-put-line
-slice-aggregate-put-line c = search needs
+cast-put-value : tie.Need-cast-put-value
+cast-put-value c = search needs
 
-put-line-requires : tie.Need-put-line-requires
-put-line-requires c κs = search needs
+put-value-requires : tie.Need-put-value-requires
+put-value-requires c κs = search needs
 
 enum-known-answer-2 : tie.Need-enum-known-answer-2
 enum-known-answer-2 c = search needs
@@ -24,7 +24,7 @@ same-length : tie.Need-same-length
 same-length c = search needs
 
 returns : tie.Need-returns
-returns c = rw (c .before .before .before .before .before .before .answer .given .1) (told _ _ _ _ _ _ _ (omega arith) (c .before .before .put-line .ensures))
+returns c = rw (c .before .before .before .before .before .answer .given .1) (told _ _ _ _ _ _ _ _ (c .before .before .put-value .ensures) (omega arith))
 
 same-length-2 : tie.Need-same-length-2
 same-length-2 c = search needs
@@ -37,8 +37,8 @@ tell-change-spec =
     tie.close
     (tie.spec
     enum-known-answer
-    slice-aggregate-put-line
-    put-line-requires
+    cast-put-value
+    put-value-requires
     enum-known-answer-2
     tell-refusal-requires
     same-length

@@ -22,7 +22,7 @@ same-length : tie.Need-same-length
 same-length c = search needs
 
 returns : tie.Need-returns
-returns c = rw (← c .before .before .before .before .before .number .ensures) (told _ _ _ _ _ _ _ (omega arith) (c .before .before .put-line .ensures))
+returns c = rw (← c .before .before .before .before .before .number .ensures) (told _ _ _ _ _ _ _ _ (c .before .before .put-line .ensures) (omega arith))
 
 pub tell-refusal-spec : {M : Type 1} → statement M
 tell-refusal-spec =

@@ -59,7 +59,7 @@ same-length c = search needs
 returns : tie.Need-returns
 unfolding reply
 returns c = let n = is-named (c .before .before .before .before .before .before) in
-    rw (n .done, ← n .names) (told _ _ _ _ _ _ _ (rw (length-take-le _ _ (n .within)) (n .fit)) (c .before .before .put-line .ensures))
+    rw (n .done, ← n .names) (told _ _ _ _ _ _ _ _ (c .before .before .put-line .ensures) (rw (length-take-le _ _ (n .within)) (omega (arith, n .fit))))
 
 same-length-2 : tie.Need-same-length-2
 same-length-2 c = search needs

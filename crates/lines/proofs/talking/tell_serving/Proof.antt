@@ -24,7 +24,7 @@ same-length : tie.Need-same-length
 same-length c = search needs
 
 returns : tie.Need-returns
-returns c = rw (c .before .before .before .before .before .before .answer .given .1) (told _ _ _ _ _ _ _ (omega arith) (c .before .before .put-line .ensures))
+returns c = rw (c .before .before .before .before .before .before .answer .given .1) (told _ _ _ _ _ _ _ _ (c .before .before .put-line .ensures) (omega arith))
 
 same-length-2 : tie.Need-same-length-2
 same-length-2 c = search needs

@@ -5,18 +5,19 @@ use native.Mathlib.Omega.{arith}
 use lib.ListN.{length-set}
 use borrow.Author.Needs.{needs}
 use Rattle.lines.specs.Printing.{field}
-use Rattle.lines.proofs.Decimals.{decimal-length}
 use Rattle.lines.proofs.writing.put_field.Statement.{statement}
 use Rattle.lines.proofs.writing.put_field.Tie as tie
 
 slice-write-out : tie.Need-slice-write-out
-slice-write-out c = search needs
+unfolding field
+slice-write-out c = omega arith
 
 add-put-number : tie.Need-add-put-number
 add-put-number c = search needs
 
 put-number-requires : tie.Need-put-number-requires
-put-number-requires c κs = simp length-set (omega (arith, decimal-length 4 (c .before .before .args .n) (omega arith)))
+unfolding field
+put-number-requires c κs = simp length-set (omega arith)
 
 same-length : tie.Need-same-length
 same-length c = rw length-set at (c .before .before .put-number .kept .0)

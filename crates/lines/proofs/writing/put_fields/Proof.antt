@@ -28,8 +28,15 @@ mul-put-field c = search needs
 shared-slice-read-put-field : tie.Need-shared-slice-read-put-field Inv-loop μ-loop
 shared-slice-read-put-field c = search needs
 
+-- a value of 16 bits has at most five digits
+short : (c : tie.After-shared-slice-known2 Inv-loop μ-loop) → length (field (getD (c .before .before .before .before .before .before .args .values .now) (c .before .before .before .loop .i) 0)) ≤ 6
+short c = field-length 4 _ (omega (arith, c .shared-slice-known2 .given (c .before .before .before .loop .i)))
+
+cast-put-field : tie.Need-cast-put-field Inv-loop μ-loop
+cast-put-field c = omega (arith, c .shared-slice-known2 .given (c .before .before .before .loop .i))
+
 put-field-requires : tie.Need-put-field-requires Inv-loop μ-loop
-put-field-requires c κs = omega arith
+put-field-requires c κs = omega (arith, short c)
 
 add-i : tie.Need-add-i Inv-loop μ-loop
 add-i c = search needs
@@ -46,7 +53,7 @@ loop-again c = let a = c .before .before .before .before .before .before .before
     rw add-one (fields-more (a .values .now) (l .i) (omega arith)) in (
       omega arith,
       omega (arith, c .before .before .put-field .kept .0),
-      omega (arith, p .0, field-length v (omega (arith, c .before .before .before .shared-slice-known2 .given (l .i)))),
+      omega (arith, p .0, short (c .before .before .before)),
       rw (more, length-append) (omega (arith, p .0)),
       p .1 ∙ rw (l .inv .4, l .inv .3, more) (sets-append (a .out .now) (a .at) (fields (take (l .i) (a .values .now))) (field v)),
     )
@@ -69,6 +76,7 @@ put-fields-spec =
     loop-holds
     mul-put-field
     shared-slice-read-put-field
+    cast-put-field
     put-field-requires
     add-i
     loop-less
