@@ -1,4 +1,5 @@
--- The laws of a board that upper crates cite: what placing and removing give, how many pieces a name has, and what holds of a name because it holds of its pieces.
+-- The laws of a board that upper crates cite: that pieces cover every leaf once, what placing and removing give, how many pieces a name has, and what holds of a
+-- name because it holds of its pieces.
 -- Assumes nothing.
 use mathlib.Core.Path.{_≡_, sym, ap, _∙_}
 use mathlib.Core.Bool.{true}
@@ -7,17 +8,48 @@ use Prim.Native.Nat.{ℕ, suc, _+_, _*_, _%_, _^_, _≤_, _<_}
 use native.Mathlib.Omega.{arith}
 use lib.Count.{ones}
 use lib.ListN.{getD, length}
-use Rattle.pieces.specs.Board.{good, Good, weight, number}
+use Rattle.pieces.specs.Board.{pieces, nth, good, Good, sum, weight, number}
+use Rattle.pieces.specs.Literal.{IsPiece, LiesIn}
 use Rattle.pieces.specs.Placing.{Placeable, placed}
 use Rattle.pieces.specs.Tidying.{Removable, removed}
 use Rattle.pieces.proofs.Blocks.{total, pieces-runs}
 use Rattle.pieces.proofs.Replace.{Agree, runs-local}
+use Rattle.pieces.proofs.Piece.{nth-order}
+use Rattle.pieces.proofs.Literal as literal
 use Rattle.pieces.proofs.Literal.{good-intro, good-elim}
 use Rattle.pieces.proofs.Opened.{idle-good}
 use Rattle.pieces.proofs.Weight as weights
 use Rattle.pieces.proofs.Adding as adding
 use Rattle.pieces.proofs.Removed as removing
 use Rattle.pieces.proofs.Sums as sums
+
+-- ---- pieces cover every leaf once
+
+module _ (C : ℕ) (few : C ≤ 4095) (B : List ℕ) where
+  -- Each leaf lies in a piece,
+  pub leaf-in-piece : (i : ℕ) → i < C → (x : ℕ) × (a : ℕ) × (l : ℕ) × LiesIn C B i x a l
+  leaf-in-piece = literal.leaf-covered C (omega arith) B
+
+  -- and in no second one.
+  pub leaf-in-one-piece : {i x a l y b m : ℕ} → LiesIn C B i x a l → LiesIn C B i y b m → (x ≡ y) × (a ≡ b) × (l ≡ m)
+  leaf-in-one-piece = literal.leaf-covered-once C (omega arith) B
+
+  module _ (x : ℕ) where
+    -- The pieces of x of the size 2^e are as many as `pieces` counts. The one that `nth` gives for a number is a piece,
+    pub nth-is-piece : (e k : ℕ) → k < pieces C B x e 0 12 → IsPiece C B x (nth C B x e k 0 12) e
+    nth-is-piece = literal.nth-literal C (omega arith) B x
+
+    -- each piece is given for a number,
+    pub piece-is-nth : {a e : ℕ} → IsPiece C B x a e → (k : ℕ) × (k < pieces C B x e 0 12) × (nth C B x e k 0 12 ≡ a)
+    piece-is-nth = literal.literal-nth C (omega arith) B x
+
+    -- and those of two numbers share no leaf.
+    pub nth-apart : (e k j : ℕ) → k < j → j < pieces C B x e 0 12 → nth C B x e k 0 12 + 2 ^ e ≤ nth C B x e j 0 12
+    nth-apart e k j = nth-order C B x e k j 0 12
+
+    -- The number of a name's leaves is the sum of its pieces' sizes.
+    pub weight-sizes : weight C B x ≡ sum (λ e. pieces C B x e 0 12 * 2 ^ e) 13
+    weight-sizes = weights.weight-total C B x (omega arith) ∙ weights.leaves-sum C B x 0 12
 
 -- A stream of weight w on a good board has as many pieces as w has ones.
 pub pieces-ones : (C : ℕ) (B : List ℕ) (x : ℕ) → C ≤ 4095 → good C B ≡ true → number C B x ≡ ones (weight C B x)

@@ -4,12 +4,14 @@ use mathlib.Core.Bool.{true, false}
 use mathlib.Core.List.{List}
 use mathlib.Core.Logic.{_⊎_, inl, inr, ⊎-elim}
 use Prim.Native.Nat.{ℕ, zero, suc, _+_, _-_, _^_, _≤_, _<_}
+use native.Mathlib.Nat.{two-pow-succ}
 use native.Mathlib.Omega.{arith}
 use native.Mathlib.Decide.{decLt, ℕ-discrete}
+use lib.ListN.{getD}
 use lib.Pow.{pow-pos}
 use borrow.Author.Tests.{lt-ltb, le-ltb}
 use Rattle.pieces.specs.Board.{whole, pieces, nth}
-use Rattle.pieces.proofs.Blocks.{In, here, low, high, by-bool, never, clash, whole-low, whole-high, runs-no, runs-above, runs-apart, pieces-runs, pieces-yes, pieces-no}
+use Rattle.pieces.proofs.Blocks.{In, here, low, high, by-bool, never, clash, whole-intro, whole-low, whole-high, runs-no, runs-above, runs-apart, pieces-runs, pieces-yes, pieces-no}
 use Rattle.pieces.proofs.Replace.{bounds, NoParent}
 
 -- A block within a block that is halved.
@@ -90,10 +92,14 @@ module _ (C : ℕ) (B : List ℕ) (x : ℕ) where
   nth-whole e k a zero t = refl
   nth-whole e k a (suc l) t = rw t
 
-  piece-all : (e k b l : ℕ) → whole C B x b l ≡ true → k < pieces C B x e b l → Piece (nth C B x e k b l) e b l
-  piece-all e k b l t h =
+  -- A run is the one piece of its block.
+  piece-all : (b l : ℕ) → whole C B x b l ≡ true → Piece b l b l
+  piece-all b l t = record { inside = here; run = t; top = λ q i j. let s = bounds j in absurd (omega arith) }
+
+  nth-all : (e k b l : ℕ) → whole C B x b l ≡ true → k < pieces C B x e b l → Piece (nth C B x e k b l) e b l
+  nth-all e k b l t h =
       elim (ℕ-discrete e l) [
-        | yes r ↦ subst₂ (λ (a f : ℕ). Piece a f b l) (sym (nth-whole e k b l t)) (sym r) (record { inside = here; run = t; top = λ q i j. let s = bounds j in absurd (omega arith) })
+        | yes r ↦ subst₂ (λ (a f : ℕ). Piece a f b l) (sym (nth-whole e k b l t)) (sym r) (piece-all b l t)
         | no r ↦ absurd (omega (arith, pieces-no C B x x e b l t (λ p q. r q)))
       ]
 
@@ -121,12 +127,25 @@ module _ (C : ℕ) (B : List ℕ) (x : ℕ) where
   -- What `nth` finds is a piece.
   pub nth-piece : (e k b l : ℕ) → k < pieces C B x e b l → Piece (nth C B x e k b l) e b l
   nth-piece e k b zero h =
-      by-bool (whole C B x b zero) (λ t. piece-all e k b zero t h) (λ f. absurd (omega (arith, pieces-none e b f)))
+      by-bool (whole C B x b zero) (λ t. nth-all e k b zero t h) (λ f. absurd (omega (arith, pieces-none e b f)))
   nth-piece e k b (suc l) h =
-      by-bool (whole C B x b (suc l)) (λ t. piece-all e k b (suc l) t h)
+      by-bool (whole C B x b (suc l)) (λ t. nth-all e k b (suc l) t h)
       (λ f. elim (decLt k (pieces C B x e b l)) [
         | yes r ↦ rw (nth-low e k b l f r) (piece-low f (nth-piece e k b l r))
         | no r ↦ rw (nth-high e k b l f (omega arith)) (piece-high f (nth-piece e (k - pieces C B x e b l) (b + 2 ^ l) l (omega (arith, pieces-apart e b l f))))
+      ])
+
+  -- Each leaf of a block that holds x lies in a piece of it.
+  pub leaf-piece : (i b l : ℕ) → b ≤ i → i < b + 2 ^ l → i < C → getD B i 0 ≡ x → (a : ℕ) × (e : ℕ) × Piece a e b l × (a ≤ i) × (i < a + 2 ^ e)
+  leaf-piece i b zero p q c h =
+      let s : i ≡ b = omega arith in
+      let t = whole-intro C B x b 0 (λ j u v. let r : j ≡ i = omega arith in rw r (c, h)) in
+      (b, 0, piece-all b 0 t, p, q)
+  leaf-piece i b (suc l) p q c h =
+      by-bool (whole C B x b (suc l)) (λ t. (b, suc l, piece-all b (suc l) t, p, q))
+      (λ f. elim (decLt i (b + 2 ^ l)) [
+        | yes r ↦ let w = leaf-piece i b l p r c h in (w .0, w .1, piece-low f (w .2), w .3, w .4)
+        | no r ↦ let w = leaf-piece i (b + 2 ^ l) l (omega arith) (omega (arith, two-pow-succ l)) c h in (w .0, w .1, piece-high f (w .2), w .3, w .4)
       ])
 
   pieces-one : (e b l : ℕ) → whole C B x b l ≡ true → pieces C B x e b l ≤ 1
