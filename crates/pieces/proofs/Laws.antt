@@ -12,6 +12,8 @@ use Rattle.pieces.specs.Board.{pieces, nth, good, Good, sum, weight, num
 use Rattle.pieces.specs.Literal.{IsPiece, LiesIn}
 use Rattle.pieces.specs.Placing.{Placeable, placed}
 use Rattle.pieces.specs.Tidying.{Removable, removed}
+-- Boards worked by hand. They are computed before any law is proved, so that a wrong rule falls on them first.
+pub use Rattle.pieces.proofs.Examples.{worked}
 use Rattle.pieces.proofs.Blocks.{total, pieces-runs}
 use Rattle.pieces.proofs.Replace.{Agree, runs-local}
 use Rattle.pieces.proofs.Piece.{nth-order}

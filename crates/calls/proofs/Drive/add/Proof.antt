@@ -20,7 +20,9 @@ cast-place : tie.Need-cast-place
 cast-place c = search needs
 
 place-requires : tie.Need-place-requires
-place-requires c κs = add-clear _ _ _ _ (sym (c .before .before .before .before .check-add .ensures) ∙ c .before .before .enum-told .given .1)
+place-requires c κs =
+    let s = add-clear _ _ _ _ (sym (c .before .before .before .before .check-add .ensures) ∙ c .before .before .enum-told .given .1) in
+    record { small = s .small; long = s .long; sound = s .sound; named = s .named; absent = s .absent; room = omega (arith, s .room) }
 
 counted-requires : tie.Need-counted-requires
 counted-requires c κs =
