@@ -105,11 +105,11 @@ neither false b e = (refl, e)
 
 -- What is known once no refusal applies: of each refusal of the list that its test is false.
 
-pub Passed : List Refusal → Asked → Type 0
+unfoldable pub Passed : List Refusal → Asked → Type 0
 Passed [] a = Unit {0}
 Passed (r ∷ rs) a = (applies r a ≡ false) × Passed rs a
 
-passed : (rs : List Refusal) (a : Asked) → firstOf rs a ≡ Clear → Passed rs a
+pub passed : (rs : List Refusal) (a : Asked) → firstOf rs a ≡ Clear → Passed rs a
 unfolding Passed firstOf
 passed [] a e = tt
 passed (r ∷ rs) a e = let f = clear-refuse (applies r a) r (firstOf rs a) e in (f .0, passed rs a (f .1))

@@ -1,15 +1,15 @@
 -- The laws of the calls that document 01 asks for and upper crates cite: no second answer, record or slice fits a promise; a refusal leaves everything as it
 -- was; a call answers only what it may; a round tells the whole board.
 -- Assumes nothing.
-use mathlib.Core.Path.{_≡_, refl, sym, ap, _∙_}
-use mathlib.Core.Bool.{Bool, true, false, _&&_, or-true}
-use mathlib.Core.List.{List, [], _∷_, _++_, map}
+use mathlib.Core.Path.{_≡_, refl}
+use mathlib.Core.Bool.{Bool, true, _&&_}
+use mathlib.Core.List.{List, [], _∷_, map}
 use Prim.Native.Nat.{ℕ, zero, suc, _≤_, _<_}
 use native.Mathlib.Decide.{decLt}
 use native.Mathlib.Nat.{le-refl}
 use native.Mathlib.Omega.{arith}
 use lib.Dec.{eqb, ltb}
-use lib.ListN.{length, getD, drop}
+use lib.ListN.{length, getD}
 use borrow.Author.Tests.{eq-eqb, eqb-true, ltb-true}
 use Rattle.sequences.specs.Serving.{countList, leavesFrom}
 use Rattle.sequences.proofs.Laws.{round-once}
@@ -19,7 +19,6 @@ use Rattle.pieces.specs.Tidying as tidying
 use Rattle.pieces.proofs.Laws.{placed-weight, removed-name}
 use Rattle.calls.specs.declared.Drive.{Drive}
 use Rattle.calls.specs.declared.Refusal.{Refusal}
-use Rattle.calls.specs.declared.Check.{Check}
 use Rattle.calls.specs.declared.Check.the-variants.{Clear, Refused}
 use Rattle.calls.specs.declared.Opened.{Opened}
 use Rattle.calls.specs.declared.Changed.{Changed}
@@ -28,44 +27,19 @@ use Rattle.calls.specs.declared.Rounded.{Rounded}
 use Rattle.calls.specs.declared.Reported.{Reported}
 use Rattle.calls.specs.Records.{driveAt}
 use Rattle.calls.specs.Refusals.{Asked, numberOf, applies, firstOf, among, openMay, addMay, removeMay, slotMay, roundMay, reportMay, askedOpen, askedAdd, askedName, asked, askedOutput, openCheck, addCheck, removeCheck, slotCheck, roundCheck, reportCheck}
-use Rattle.calls.specs.Answers.{Answer, answered, openingAnswer, changeAnswer, servingAnswer, roundingAnswer, reportAnswer}
-use Rattle.calls.specs.Results.{ifClear, idleBoard, addedIdle, addedBoard, removedIdle, removedBoard, servedName, servedLeaf, servedPassed, movedOn, slotNames, roundNames, reportedSpacing}
+use Rattle.calls.specs.Answers.{openingAnswer, changeAnswer, servingAnswer, roundingAnswer, reportAnswer}
+use Rattle.calls.specs.Results.{openedAnswer, addedAnswer, addedBoard, removedAnswer, removedBoard, servedAnswer, slotNames, roundNames, roundedAnswer, reportedAnswer}
 use Rattle.calls.proofs.Checking.{by-bool, add-clear, add-weight, remove-clear, remove-held}
+use Rattle.calls.proofs.Calling.{unique, Refuses, refuses, refusal, may, first-among, and-both}
 use Rattle.calls.specs.Promises.{Opens, Adds, Removes, Serves, Rounds, Reports}
 -- ---- what is known once the checks of a call are clear
 
-pub use Rattle.calls.proofs.Checking.{Sized, first-next, first-clear, then-clear, open-clear, open-sized, slot-sized, slot-parts, change-parts, slot-position, change-slot, change-start, change-good, add-change, add-weight, add-clear, remove-change, remove-held, remove-clear, round-slot, round-room, report-slot, report-good, report-held}
-
+unfoldable pub use Rattle.calls.proofs.Checking.{Passed}
+pub use Rattle.calls.proofs.Checking.{Sized, passed, first-next, first-clear, then-clear, open-clear, open-sized, slot-sized, slot-parts, change-parts, slot-position, change-slot, change-start, change-good, add-change, add-weight, add-clear, remove-change, remove-held, remove-clear, round-slot, round-room, report-slot, report-good, report-held}
 -- ---- what holds of every call
 
-unique : {A : Type 0} {x y z : A} → x ≡ z → y ≡ z → x ≡ y
-unique p q = p ∙ sym q
-
--- an answer that refuses: its number is not 0
-abbrev pub Refuses : Answer → Type 0
-Refuses a = a .number ≡ 0 → ⊥
-
--- what is left as it was, and zeros for values
-pub kept : {A : Type 0} (k : Check) (vs : List ℕ) (done was : A) → Refuses (answered k vs) → ifClear k done was ≡ was
-kept Clear vs done was h = absurd (h refl)
-kept (Refused r) vs done was h = refl
-
-pub zeros : (k : Check) (vs : List ℕ) → Refuses (answered k vs) → answered k vs .values ≡ map (λ v. 0) vs
-zeros Clear vs h = absurd (h refl)
-zeros (Refused r) vs h = refl
-
-pub refuses : {a b : Answer} → a ≡ b → Refuses a → Refuses b
-refuses e h z = h (ap (λ (a : Answer). a .number) e ∙ z)
-
-first-among : (rs : List Refusal) (a : Asked) (vs : List ℕ) → among (answered (firstOf rs a) vs .number) rs ≡ true
-unfolding firstOf among
-first-among [] a vs = refl
-first-among (r ∷ rs) a vs = by-bool (applies r a)
-    (λ t. rw (t, eq-eqb (numberOf r) (numberOf r) refl))
-    (λ f. rw (f, first-among rs a vs) (or-true (eqb (answered (firstOf rs a) vs .number) (numberOf r))))
-
-pub may : (rs : List Refusal) (a : Asked) (vs : List ℕ) {b : Answer} → b ≡ answered (firstOf rs a) vs → among (b .number) rs ≡ true
-may rs a vs e = ap (λ (b : Answer). among (b .number) rs) e ∙ first-among rs a vs
+unfoldable pub use Rattle.calls.proofs.Calling.{covers}
+pub use Rattle.calls.proofs.Calling.{unique, number-some, number-tells, clear-number, Refuses, refuses, refusal, Within, within-among, may, first-within, first-among, then-within, if-within, part-within, never-within}
 
 -- ---- "the lowest number that applies is answered"
 
@@ -82,10 +56,6 @@ lists-ascending = refl
 unfoldable pub Lowest : ℕ → List Refusal → Asked → Type 0
 Lowest n [] a = Unit {0}
 Lowest n (r ∷ rs) a = (applies r a ≡ true → n ≤ numberOf r) × Lowest n rs a
-
-and-both : (a b : Bool) → (a && b) ≡ true → (a ≡ true) × (b ≡ true)
-and-both true b e = (refl, e)
-and-both false b e = let z : _≡_ {A = ℕ} 0 1 = cc in absurd (omega arith)
 
 above : (n m : ℕ) (rs : List Refusal) (a : Asked) → n ≤ m → ascending m rs ≡ true → Lowest n rs a
 unfolding Lowest ascending
@@ -116,13 +86,14 @@ module _ (C : ℕ) (B : List ℕ) where
   open-unique p q = (unique (p .0) (q .0), unique (p .2) (q .2))
 
   pub open-refused : {r : Opened} {E : List ℕ} → Opens C B r E → Refuses (openingAnswer (r .answer)) → (r .drive ≡ driveAt 0 0) × (E ≡ B)
-  open-refused p h =
-      let n = refuses (p .1) h in
-      (ap (λ (r : Opened). r .drive) (p .0) ∙ kept (openCheck C B) [] (driveAt C 1) (driveAt 0 0) n, p .2 ∙ kept (openCheck C B) [] (idleBoard C B) B n)
+  open-refused p h = rw (p .0, p .2, refusal (openCheck C B) (refuses (p .1) h) .1) (refl, refl)
+
+  pub open-answers : among (openedAnswer C B .number) openMay ≡ true
+  unfolding openCheck
+  open-answers = first-among openMay (askedOpen C B)
 
   pub open-may : {r : Opened} {E : List ℕ} → Opens C B r E → among (openingAnswer (r .answer) .number) openMay ≡ true
-  unfolding openCheck
-  open-may p = may openMay (askedOpen C B) [] (p .1)
+  open-may p = may openMay (p .1) open-answers
 
 -- ---- add
 
@@ -132,16 +103,14 @@ module _ (d : Drive) (B : List ℕ) (x w : ℕ) where
 
   pub add-refused : {r : Changed} {E : List ℕ} → Adds d B x w r E → Refuses (changeAnswer (r .answer))
       → (r .drive ≡ d) × (changeAnswer (r .answer) .values ≡ 0 ∷ []) × (E ≡ B)
-  add-refused p h =
-      let n = refuses (p .1) h in (
-        ap (λ (r : Changed). r .drive) (p .0),
-        ap (λ (a : Answer). a .values) (p .1) ∙ zeros (addCheck d B x w) (addedIdle d B x w ∷ []) n,
-        p .2 ∙ kept (addCheck d B x w) (addedIdle d B x w ∷ []) (placed (d .capacity) B x w) B n,
-      )
+  add-refused p h = rw (p .0, p .2, refusal (addCheck d B x w) (refuses (p .1) h) .1) (refl, refl, refl)
+
+  pub add-answers : among (addedAnswer d B x w .number) addMay ≡ true
+  unfolding addCheck
+  add-answers = first-among addMay (askedAdd d B x w)
 
   pub add-may : {r : Changed} {E : List ℕ} → Adds d B x w r E → among (changeAnswer (r .answer) .number) addMay ≡ true
-  unfolding addCheck
-  add-may p = may addMay (askedAdd d B x w) (addedIdle d B x w ∷ []) (p .1)
+  add-may p = may addMay (p .1) add-answers
 
 -- ---- remove
 
@@ -151,37 +120,30 @@ module _ (d : Drive) (B : List ℕ) (x : ℕ) where
 
   pub remove-refused : {r : Changed} {E : List ℕ} → Removes d B x r E → Refuses (changeAnswer (r .answer))
       → (r .drive ≡ d) × (changeAnswer (r .answer) .values ≡ 0 ∷ []) × (E ≡ B)
-  remove-refused p h =
-      let n = refuses (p .1) h in (
-        ap (λ (r : Changed). r .drive) (p .0),
-        ap (λ (a : Answer). a .values) (p .1) ∙ zeros (removeCheck d B x) (removedIdle d B x ∷ []) n,
-        p .2 ∙ kept (removeCheck d B x) (removedIdle d B x ∷ []) (tidying.removed (d .capacity) B x) B n,
-      )
+  remove-refused p h = rw (p .0, p .2, refusal (removeCheck d B x) (refuses (p .1) h) .1) (refl, refl, refl)
+
+  pub remove-answers : among (removedAnswer d B x .number) removeMay ≡ true
+  unfolding removeCheck
+  remove-answers = first-among removeMay (askedName d B x)
 
   pub remove-may : {r : Changed} {E : List ℕ} → Removes d B x r E → among (changeAnswer (r .answer) .number) removeMay ≡ true
-  unfolding removeCheck
-  remove-may p = may removeMay (askedName d B x) (removedIdle d B x ∷ []) (p .1)
+  remove-may p = may removeMay (p .1) remove-answers
 
 -- ---- slot
 
 module _ (d : Drive) (B : List ℕ) where
-  told : List ℕ
-  told = servedName d B ∷ servedLeaf d ∷ servedPassed d ∷ []
-
   pub slot-unique : {r s : Served} → Serves d B r → Serves d B s → r ≡ s
   slot-unique p q = unique (p .0) (q .0)
 
   pub slot-refused : {r : Served} → Serves d B r → Refuses (servingAnswer (r .answer)) → (r .drive ≡ d) × (servingAnswer (r .answer) .values ≡ 0 ∷ 0 ∷ 0 ∷ [])
-  unfolding told
-  slot-refused p h =
-      let n = refuses (p .1) h in (
-        ap (λ (r : Served). r .drive) (p .0) ∙ kept (slotCheck d B) told (movedOn d) d n,
-        ap (λ (a : Answer). a .values) (p .1) ∙ zeros (slotCheck d B) told n,
-      )
+  slot-refused p h = rw (p .0, refusal (slotCheck d B) (refuses (p .1) h) .1) (refl, refl)
+
+  pub slot-answers : among (servedAnswer d B .number) slotMay ≡ true
+  unfolding slotCheck
+  slot-answers = first-among slotMay (asked d B)
 
   pub slot-may : {r : Served} → Serves d B r → among (servingAnswer (r .answer) .number) slotMay ≡ true
-  unfolding slotCheck told
-  slot-may p = may slotMay (asked d B) told (p .1)
+  slot-may p = may slotMay (p .1) slot-answers
 
 -- ---- round
 
@@ -190,34 +152,30 @@ module _ (d : Drive) (B O : List ℕ) where
   round-unique p q = (unique (p .0) (q .0), unique (p .2) (q .2))
 
   pub round-refused : {r : Rounded} {E : List ℕ} → Rounds d B O r E → Refuses (roundingAnswer (r .answer)) → (r .drive ≡ d) × (E ≡ O)
-  round-refused p h =
-      let n = refuses (p .1) h in (
-        ap (λ (r : Rounded). r .drive) (p .0),
-        p .2 ∙ kept (roundCheck d B (length O)) [] (roundNames (d .capacity) B ++ drop (d .capacity) O) O n,
-      )
+  round-refused p h = rw (p .0, p .2, refusal (roundCheck d B (length O)) (refuses (p .1) h) .1) (refl, refl)
+
+  pub round-answers : among (roundedAnswer d B O .number) roundMay ≡ true
+  unfolding roundCheck
+  round-answers = first-among roundMay (askedOutput d B (length O) (d .capacity))
 
   pub round-may : {r : Rounded} {E : List ℕ} → Rounds d B O r E → among (roundingAnswer (r .answer) .number) roundMay ≡ true
-  unfolding roundCheck
-  round-may p = may roundMay (askedOutput d B (length O) (d .capacity)) [] (p .1)
+  round-may p = may roundMay (p .1) round-answers
 
 -- ---- report
 
 module _ (d : Drive) (B : List ℕ) (x : ℕ) where
-  reports : List ℕ
-  reports = weight (d .capacity) B x ∷ number (d .capacity) B x ∷ reportedSpacing d B x ∷ []
-
   pub report-unique : {r s : Reported} → Reports d B x r → Reports d B x s → r ≡ s
   report-unique p q = unique (p .0) (q .0)
 
   pub report-refused : {r : Reported} → Reports d B x r → Refuses (reportAnswer (r .answer)) → (r .drive ≡ d) × (reportAnswer (r .answer) .values ≡ 0 ∷ 0 ∷ 0 ∷ [])
-  unfolding reports
-  report-refused p h =
-      let n = refuses (p .1) h in
-      (ap (λ (r : Reported). r .drive) (p .0), ap (λ (a : Answer). a .values) (p .1) ∙ zeros (reportCheck d B x) reports n)
+  report-refused p h = rw (p .0, refusal (reportCheck d B x) (refuses (p .1) h) .1) (refl, refl)
+
+  pub report-answers : among (reportedAnswer d B x .number) reportMay ≡ true
+  unfolding reportCheck
+  report-answers = first-among reportMay (askedName d B x)
 
   pub report-may : {r : Reported} → Reports d B x r → among (reportAnswer (r .answer) .number) reportMay ≡ true
-  unfolding reportCheck reports
-  report-may p = may reportMay (askedName d B x) reports (p .1)
+  report-may p = may reportMay (p .1) report-answers
 
 -- ---- "a leaf holds the name"
 

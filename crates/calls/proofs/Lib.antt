@@ -1,5 +1,6 @@
 -- What upper crates cite is Laws. The rest is inner; Worked has the boards worked by hand.
 mod Checking
+mod Calling
 mod Writing
 mod Worked
 pub mod Laws

@@ -3,6 +3,7 @@
 use mathlib.Core.List.{List, [], _∷_, map}
 use Prim.Native.Nat.{ℕ}
 use Rattle.calls.specs.Refusals.{numberOf}
+use Rattle.calls.specs.declared.Refusal.{Refusal}
 use Rattle.calls.specs.declared.Check.{Check}
 use Rattle.calls.specs.declared.Check.the-variants.{Clear, Refused}
 use Rattle.calls.specs.declared.Opening.{Opening}
@@ -21,10 +22,22 @@ pub record Answer : Type 0 where
   pub number : ℕ
   pub values : List ℕ
 
+-- The number, by what the checks find: 0 where that is nothing.
+abbrev pub numberBy : Check → ℕ
+numberBy Clear = 0
+numberBy (Refused r) = numberOf r
+
+-- The values, by what the checks find: those of a call that is done, or those that stand beside a refusal's number.
+abbrev pub valuesBy : Check → List ℕ → (Refusal → List ℕ) → List ℕ
+valuesBy Clear vs beside = vs
+valuesBy (Refused r) vs beside = beside r
+
+abbrev pub answeredWith : Check → List ℕ → (Refusal → List ℕ) → Answer
+answeredWith k vs beside = record { number = numberBy k; values = valuesBy k vs beside }
+
 -- Done is 0 and the values; a refusal is its number, and a zero for each value.
 abbrev pub answered : Check → List ℕ → Answer
-answered Clear vs = record { number = 0; values = vs }
-answered (Refused r) vs = record { number = numberOf r; values = map (λ v. 0) vs }
+answered k vs = answeredWith k vs (λ r. map (λ v. 0) vs)
 
 -- Open and round have no values.
 abbrev pub openingAnswer : Opening → Answer

@@ -1,7 +1,7 @@
 -- Document 01, "Calls and refusal numbers": the table, the refusals that each call may answer, and the first of them that applies.
 -- Assumes nothing.
 use mathlib.Core.Bool.{Bool, true, false, not, _||_}
-use mathlib.Core.List.{List, [], _∷_}
+use mathlib.Core.List.{List, [], _∷_, map}
 use Prim.Native.Nat.{ℕ, _-_, _^_}
 use lib.Dec.{eqb, ltb}
 use lib.ListN.{length}
@@ -72,10 +72,19 @@ abbrev pub andThen : Check → Check → Check
 andThen Clear later = later
 andThen (Refused r) later = Refused r
 
+-- n is 0, or a number of the list.
+unfoldable pub zeroOr : ℕ → List ℕ → Bool
+zeroOr n [] = eqb n 0
+zeroOr n (m ∷ ms) = eqb n m || zeroOr n ms
+
+-- The numbers of a list of refusals.
+abbrev pub numbers : List Refusal → List ℕ
+numbers rs = map numberOf rs
+
 -- n is 0, or the number of a refusal of the list.
 unfoldable pub among : ℕ → List Refusal → Bool
-among n [] = eqb n 0
-among n (r ∷ rs) = eqb n (numberOf r) || among n rs
+unfolding zeroOr
+among n rs = zeroOr n (numbers rs)
 
 -- What each call may answer, in its order.
 abbrev pub openMay : List Refusal
@@ -96,7 +105,7 @@ roundMay = Capacity ∷ Short ∷ Position ∷ Output ∷ []
 abbrev pub reportMay : List Refusal
 reportMay = Capacity ∷ Short ∷ Position ∷ Damaged ∷ Name ∷ Absent ∷ []
 
--- What add, remove and save have in common.
+-- What add and remove have in common.
 abbrev pub changeMay : List Refusal
 changeMay = Capacity ∷ Short ∷ Position ∷ Midround ∷ Damaged ∷ []
 
@@ -145,7 +154,7 @@ unfoldable pub reportCheck : Drive → List ℕ → ℕ → Check
 unfolding firstOf
 reportCheck d B x = firstOf reportMay (askedName d B x)
 
--- What the parts of these checks find: first what add, remove and save have in common, then parts of a capacity and a board alone.
+-- What the parts of these checks find: first what add and remove have in common, then parts of a capacity and a board alone.
 unfoldable pub changeCheck : Drive → List ℕ → Check
 unfolding firstOf
 changeCheck d B = firstOf changeMay (asked d B)

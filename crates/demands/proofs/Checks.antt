@@ -5,42 +5,12 @@ use mathlib.Core.Bool.{Bool, true, false}
 use mathlib.Core.List.{List, [], _∷_, _++_}
 use Prim.Native.Nat.{ℕ}
 use native.Mathlib.Omega.{arith}
-use lib.Dec.{eqb}
-use lib.ListN.{getD}
 use Rattle.sequences.specs.Serving.{one}
 use Rattle.calls.specs.declared.Refusal.{Refusal}
-use Rattle.calls.specs.declared.Refusal.the-variants.{Capacity, Short, Position, Midround, Damaged, Name, Weight, Taken, Absent, Room, Output, Block}
 use Rattle.calls.specs.declared.Check.{Check}
 use Rattle.calls.specs.declared.Check.the-variants.{Clear, Refused}
-use Rattle.calls.specs.Refusals.{Asked, applies, firstOf, refuseIf, numberOf}
+use Rattle.calls.specs.Refusals.{Asked, applies, firstOf, refuseIf}
 use Rattle.calls.proofs.Laws.{first-next}
-
--- the refusal of a number of the table
-refusalOf : ℕ → Refusal
-refusalOf n = getD (Block ∷ Capacity ∷ Short ∷ Position ∷ Midround ∷ Damaged ∷ Name ∷ Weight ∷ Taken ∷ Absent ∷ Room ∷ Output ∷ []) n Block
-
-numbered : (r : Refusal) → (refusalOf (numberOf r) ≡ r) × (eqb (numberOf r) 0 ≡ false)
-unfolding refusalOf
-numbered Capacity = (refl, refl)
-numbered Short = (refl, refl)
-numbered Position = (refl, refl)
-numbered Midround = (refl, refl)
-numbered Damaged = (refl, refl)
-numbered Name = (refl, refl)
-numbered Weight = (refl, refl)
-numbered Taken = (refl, refl)
-numbered Absent = (refl, refl)
-numbered Room = (refl, refl)
-numbered Output = (refl, refl)
-numbered Block = (refl, refl)
-
--- a refusal's number is not 0
-pub number-some : (r : Refusal) → eqb (numberOf r) 0 ≡ false
-number-some r = numbered r .1
-
--- and tells it
-pub number-tells : (r q : Refusal) → numberOf r ≡ numberOf q → r ≡ q
-number-tells r q e = sym (numbered r .0) ∙ ap refusalOf e ∙ numbered q .0
 
 pub clash : {P : Type 0} {b : Bool} → b ≡ true → b ≡ false → P
 clash p q = absurd (let e : _≡_ {A = ℕ} 1 0 = ap one (sym p ∙ q) in omega arith)

@@ -8,7 +8,7 @@ use Prim.Native.Nat.{ℕ, zero, _+_, _-_, _*_, _≤_, _<_}
 use native.Mathlib.Omega.{arith}
 use lib.Count.{ones}
 use lib.Dec.{ltb}
-use lib.ListN.{length, drop, replicate}
+use lib.ListN.{length, replicate}
 use Rattle.sequences.specs.Serving.{afterSlots}
 use Rattle.sequences.specs.Scanning.{roundLeaves}
 use Rattle.sequences.specs.Board.{passedFrom, servedFrom, nextFrom}
@@ -20,16 +20,16 @@ use Rattle.pieces.proofs.Laws.{pieces-ones}
 use Rattle.calls.specs.declared.Drive.{Drive}
 use Rattle.calls.specs.declared.Check.the-variants.{Clear}
 use Rattle.calls.specs.Records.{driveAt}
-use Rattle.calls.specs.Refusals.{firstOf, among, asked, askedAdd, askedName, askedOutput, askedOpen, openMay, addMay, removeMay, slotMay, roundMay, reportMay, openCheck, addCheck, removeCheck, slotCheck, roundCheck, reportCheck}
-use Rattle.calls.specs.Results.{ifClear, openedAnswer, idleBoard, addedIdle, removedIdle, servedName, servedLeaf, servedPassed, movedOn, slotNames, roundNames, reportedSpacing}
-use Rattle.calls.proofs.Laws.{open-clear, slot-position}
+use Rattle.calls.specs.Refusals.{firstOf, among, askedAdd, openMay, openCheck, addCheck, removeCheck, slotCheck, roundCheck, reportCheck}
+use Rattle.calls.specs.Results.{openedAnswer, slotNames, roundNames}
+use Rattle.calls.proofs.Laws.{clear-number, refusal, open-answers, add-answers, remove-answers, slot-answers, round-answers, report-answers, open-clear, slot-position}
 use Rattle.demands.specs.Histories.{Act, Add, Remove, Slot, Round, Report, State, Openable, does, says, opens, after, reach}
 use Rattle.demands.specs.Refusing.{mayAnswer, lent, writes, zeros, otherChecks}
 use Rattle.demands.specs.Holdings.{isChange, held, heldOf, total}
 use Rattle.demands.specs.Rounds.{namesFrom, FullRound, InTurn, inARow, times, namesOn, Near, bound, demanded}
 use Rattle.demands.proofs.Checks.{clash}
-use Rattle.demands.proofs.Answering.{by-first, clear-number, done-idle}
-use Rattle.demands.proofs.Valid.{Valid, stateAt, slot-clear, clear-valid}
+use Rattle.demands.proofs.Answering.{done-idle}
+use Rattle.demands.proofs.Valid.{Valid, slot-clear, clear-valid}
 use Rattle.demands.proofs.Reached.{Sound, after-one, opened-clear, always}
 use Rattle.demands.proofs.Rows.{full-names, moves, slots-full}
 use Rattle.demands.proofs.Standing.{never-damaged, midround, others-pass, room, served-round, served-fair}
@@ -40,39 +40,31 @@ use Rattle.demands.proofs.Standing.{never-damaged, midround, others-pas
 pub demand-1 : (a : Act) (s : State)
     → (among (says a s .number) (mayAnswer a) ≡ true)
     × ((says a s .number ≡ 0 → ⊥) → (does a s ≡ s) × (writes a s ≡ lent a) × (says a s .values ≡ zeros (says a s .values)))
-unfolding addCheck removeCheck slotCheck roundCheck reportCheck
 demand-1 (Add x w) s =
     let d = s .drive in
     let B = s .board in
-    let done = placed (d .capacity) B x w in
-    by-first addMay (askedAdd d B x w) (addedIdle d B x w ∷ []) (λ c. record { drive = d; board = ifClear c done B } ≡ s) (λ c. lent (Add x w) ≡ []) (λ r. refl) (λ r. refl)
+    (add-answers d B x w, λ n. rw (refusal (addCheck d B x w) n .1) (refl, refl, refl))
 demand-1 (Remove x) s =
     let d = s .drive in
     let B = s .board in
-    let done = removed (d .capacity) B x in
-    by-first removeMay (askedName d B x) (removedIdle d B x ∷ []) (λ c. record { drive = d; board = ifClear c done B } ≡ s) (λ c. lent (Remove x) ≡ []) (λ r. refl) (λ r. refl)
+    (remove-answers d B x, λ n. rw (refusal (removeCheck d B x) n .1) (refl, refl, refl))
 demand-1 Slot s =
     let d = s .drive in
     let B = s .board in
-    by-first slotMay (asked d B) (servedName d B ∷ servedLeaf d ∷ servedPassed d ∷ []) (λ c. record { drive = ifClear c (movedOn d) d; board = B } ≡ s) (λ c. lent Slot ≡ []) (λ r. refl) (λ r. refl)
+    (slot-answers d B, λ n. rw (refusal (slotCheck d B) n .1) (refl, refl, refl))
 demand-1 (Round O) s =
     let d = s .drive in
     let B = s .board in
-    let done = roundNames (d .capacity) B ++ drop (d .capacity) O in
-    by-first roundMay (askedOutput d B (length O) (d .capacity)) [] (λ c. s ≡ s) (λ c. ifClear c done O ≡ O) (λ r. refl) (λ r. refl)
+    (round-answers d B O, λ n. rw (refusal (roundCheck d B (length O)) n .1) (refl, refl, refl))
 demand-1 (Report x) s =
     let d = s .drive in
     let B = s .board in
-    by-first reportMay (askedName d B x) (weight (d .capacity) B x ∷ number (d .capacity) B x ∷ reportedSpacing d B x ∷ []) (λ c. s ≡ s) (λ c. lent (Report x) ≡ []) (λ r. refl) (λ r. refl)
+    (report-answers d B x, λ n. rw (refusal (reportCheck d B x) n .1) (refl, refl, refl))
 
 -- So does open; refused, it gives a record with C and p zero, and the board as it was.
 pub demand-1-open : (C : ℕ) (B : List ℕ)
     → (among (openedAnswer C B .number) openMay ≡ true) × ((openedAnswer C B .number ≡ 0 → ⊥) → opens C B ≡ record { drive = driveAt 0 0; board = B })
-unfolding openCheck
-demand-1-open C B =
-    let done = idleBoard C B in
-    let t = by-first openMay (askedOpen C B) [] (λ c. record { drive = ifClear c (driveAt C 1) (driveAt 0 0); board = ifClear c done B } ≡ stateAt (driveAt 0 0) B) (λ c. C ≡ C) (λ r. refl) (λ r. refl) in
-    (t .0, λ n. t .1 n .0)
+demand-1-open C B = (open-answers C B, λ n. rw (refusal (openCheck C B) n .1) refl)
 
 -- ---- Demand 2, the board
 
@@ -81,14 +73,14 @@ pub demand-2-add : (x w : ℕ) (s : State) → says (Add x w) s .number ≡ 0 �
 demand-2-add x w s done =
     let d = s .drive in
     let B = s .board in
-    rw (clear-number (addCheck d B x w) (addedIdle d B x w ∷ []) done) refl
+    rw (clear-number (addCheck d B x w) done) refl
 
 -- and a remove that is done the board that the tidying rule gives once the name's leaves are idle.
 pub demand-2-remove : (x : ℕ) (s : State) → says (Remove x) s .number ≡ 0 → does (Remove x) s ≡ record { drive = s .drive; board = removed (s .drive .capacity) (s .board) x }
 demand-2-remove x s done =
     let d = s .drive in
     let B = s .board in
-    rw (clear-number (removeCheck d B x) (removedIdle d B x ∷ []) done) refl
+    rw (clear-number (removeCheck d B x) done) refl
 
 -- ---- Demand 2, the slot order
 
@@ -100,7 +92,7 @@ demand-2-slot s clear =
     let B = s .board in
     let C = d .capacity in
     let p = d .position in
-    let e = clear-number (slotCheck d B) (servedName d B ∷ servedLeaf d ∷ servedPassed d ∷ []) clear in
+    let e = clear-number (slotCheck d B) clear in
     let at = slot-position d B e in
     record {
       over = passedFrom C p;
@@ -117,14 +109,14 @@ demand-2-order s rest clear full =
     let d = s .drive in
     let B = s .board in
     let C = d .capacity in
-    let is : Valid s = clear-valid s (clear-number (slotCheck d B) (servedName d B ∷ servedLeaf d ∷ servedPassed d ∷ []) clear) in
+    let is : Valid s = clear-valid s (clear-number (slotCheck d B) clear) in
     full-names s rest is full ∙ ap (namesOn B) (round-literal C (is .at .some) (is .at .few))
 
 -- It ends where the next round starts.
 pub demand-2-ends : (s : State) (rest : List Act) → says Slot s .number ≡ 0 → FullRound s rest → after s (Slot ∷ rest) .drive ≡ s .drive
 demand-2-ends s rest clear full =
     let d = s .drive in
-    let e = clear-number (slotCheck d (s .board)) (servedName d (s .board) ∷ servedLeaf d ∷ servedPassed d ∷ []) clear in
+    let e = clear-number (slotCheck d (s .board)) clear in
     let at = slot-position d (s .board) e in
     let m = moves s (Slot ∷ rest) in
     let back : afterSlots (d .capacity) (d .position) (d .capacity) ≡ d .position = rw (full .first) (round-ends (d .capacity) (at .some) (at .few)) in
@@ -141,7 +133,7 @@ demand-2-round C B some few = ap (namesOn B) (round-literal C some (omega arith)
 pub demand-3-openable : (C : ℕ) (B : List ℕ) → (Openable C B → openedAnswer C B .number ≡ 0) × (openedAnswer C B .number ≡ 0 → Openable C B)
 demand-3-openable C B = (
   λ may. rw (opened-clear C B may) refl,
-  λ done. let s = open-clear C B (clear-number (openCheck C B) [] done) in record { some = s .some; few = s .few; long = s .long },
+  λ done. let s = open-clear C B (clear-number (openCheck C B) done) in record { some = s .some; few = s .few; long = s .long },
 )
 
 module _ (C : ℕ) (B : List ℕ) (may : Openable C B) (acts : List Act) where

@@ -8,8 +8,6 @@ pub use Rattle.demands.specs.Histories.{Act, Add, Remove, Slot, Round, R
 pub use Rattle.demands.specs.Refusing.{otherChecks}
 pub use Rattle.demands.specs.Holdings.{Stream, without, changed, isChange, heldFrom, held, heldOf, total}
 pub use Rattle.demands.specs.Rounds.{servedBy, names, namesFrom, FullRound, inARow, times, namesOn, Near, bound, demanded}
-pub use Rattle.demands.proofs.Checks.{number-some, number-tells}
-pub use Rattle.demands.proofs.Answering.{clear-number}
 pub use Rattle.demands.proofs.Valid.{stateAt, Valid, slot-clear, clear-valid, slot-moves, valid-next}
 pub use Rattle.demands.proofs.Reached.{Sound, opened, step, reached, always, after-one, after-append, held-append}
 pub use Rattle.demands.proofs.Rows.{names-append, full-names, moves, slots-full}

@@ -19,10 +19,9 @@ use Rattle.calls.specs.declared.Check.the-variants.{Clear, Refused}
 use Rattle.calls.specs.Records.{driveAt}
 use Rattle.calls.specs.Refusals.{openCheck, addCheck, removeCheck}
 use Rattle.calls.specs.Results.{idleBoard, movedOn}
-use Rattle.calls.proofs.Laws.{open-sized, add-clear, remove-clear}
+use Rattle.calls.proofs.Laws.{number-some, open-sized, add-clear, remove-clear}
 use Rattle.demands.specs.Histories.{Act, Add, Remove, Slot, Round, Report, State, Openable, does, says, after, reach, log}
 use Rattle.demands.specs.Holdings.{Stream, without, changed, heldFrom, held, heldOf, total}
-use Rattle.demands.proofs.Checks.{number-some}
 use Rattle.demands.proofs.Valid.{Valid, stateAt, slot-clear, valid-next}
 
 -- The board is good, and every name has as many leaves as it holds.

@@ -14,9 +14,9 @@ use Rattle.calls.specs.declared.Check.{Check}
 use Rattle.calls.specs.declared.Check.the-variants.{Clear, Refused}
 use Rattle.calls.specs.Refusals.{slotCheck}
 use Rattle.calls.specs.Results.{servedName, movedOn}
+use Rattle.calls.proofs.Laws.{number-some}
 use Rattle.demands.specs.Histories.{Act, Add, Remove, Slot, Round, Report, State, does, says, after, log}
 use Rattle.demands.specs.Rounds.{names, namesFrom, FullRound, inARow, times, namesOn}
-use Rattle.demands.proofs.Checks.{number-some}
 use Rattle.demands.proofs.Windows.{round-away}
 use Rattle.demands.proofs.Streams.{holds}
 use Rattle.demands.proofs.Valid.{Valid, stateAt, slot-clear, valid-next, add-midround, remove-midround}

@@ -14,7 +14,6 @@ use Rattle.calls.specs.declared.Drive.{Drive}
 use Rattle.calls.specs.declared.Refusal.the-variants.{Midround, Damaged, Name, Weight, Taken, Room}
 use Rattle.calls.specs.declared.Check.the-variants.{Clear}
 use Rattle.calls.specs.Refusals.{firstOf, applies, asked, askedAdd, askedName, askedOutput, addMay, removeMay, slotMay, roundMay, reportMay, addCheck, removeCheck, slotCheck, roundCheck, reportCheck}
-use Rattle.calls.specs.Results.{addedIdle, removedIdle, servedName, servedLeaf, servedPassed, reportedSpacing}
 use Rattle.demands.specs.Histories.{Act, Add, Remove, Slot, Round, Report, State, does, says}
 use Rattle.demands.specs.Refusing.{otherChecks}
 use Rattle.demands.specs.Holdings.{Stream, isChange, heldOf, total}
@@ -45,11 +44,11 @@ module _ (s : State) (hs : List Stream) (is : Sound s hs) where
       fine = ap not (is .fine)
 
       go : (a : Act) → says a s .number ≡ 5 → ⊥
-      go (Add x w) = undamaged addMay (askedAdd d B x w) (addedIdle d B x w ∷ []) fine
-      go (Remove x) = undamaged removeMay (askedName d B x) (removedIdle d B x ∷ []) fine
-      go Slot = undamaged slotMay (asked d B) (servedName d B ∷ servedLeaf d ∷ servedPassed d ∷ []) fine
-      go (Round O) = undamaged roundMay (askedOutput d B (length O) C) [] fine
-      go (Report x) = undamaged reportMay (askedName d B x) (weight C B x ∷ number C B x ∷ reportedSpacing d B x ∷ []) fine
+      go (Add x w) = undamaged addMay (askedAdd d B x w) fine
+      go (Remove x) = undamaged removeMay (askedName d B x) fine
+      go Slot = undamaged slotMay (asked d B) fine
+      go (Round O) = undamaged roundMay (askedOutput d B (length O) C) fine
+      go (Report x) = undamaged reportMay (askedName d B x) fine
 
   -- away from position 1 a change is refused for MIDROUND
   pub midround : (a : Act) → isChange a ≡ true → (s .drive .position ≡ 1 → ⊥) → (says a s .number ≡ 4) × (does a s ≡ s)
@@ -77,7 +76,7 @@ module _ (s : State) (hs : List Stream) (is : Sound s hs) where
   unfolding addCheck
   room x w e =
       let i : C - total hs ≡ weight C B 0 = let j = is .idle in omega arith in
-      rw (first-after (askedAdd (s .drive) B x w) otherChecks (Room ∷ []) e, i) (room-number (ltb (weight C B 0) w) (addedIdle (s .drive) B x w ∷ []))
+      rw (first-after (askedAdd (s .drive) B x w) otherChecks (Room ∷ []) e, i) (room-number (ltb (weight C B 0) w))
 
   module _ (rest : List Act) (full : FullRound s rest) where
     -- a full round serves a name as often as it holds

@@ -4,20 +4,21 @@ use mathlib.Core.Bool.{Bool, true, false, not}
 use mathlib.Core.List.{List, [], _∷_, _++_}
 use Prim.Native.Nat.{ℕ, _*_, _≤_, _<_}
 use native.Mathlib.Omega.{arith}
-use lib.Dec.{ltb}
+use lib.Dec.{eqb, ltb}
 use lib.ListN.{length, drop}
 use borrow.Author.Tests.{lt-ltb, le-ltb, ltb-false, not-false}
 use Rattle.pieces.specs.Board.{good}
-use Rattle.calls.specs.Refusals.{refuseIf, askedOutput, changeMay, openCheck, changeCheck, goodCheck, andThen}
+use Rattle.calls.specs.Records.{driveAt}
+use Rattle.calls.specs.Refusals.{applies, refuseIf, askedOutput, slotMay, openCheck, slotCheck, goodCheck, andThen}
 use Rattle.calls.specs.Results.{ifClear}
 use Rattle.calls.specs.declared.Drive.{Drive}
 use Rattle.calls.specs.declared.Refusal.{Refusal}
-use Rattle.calls.specs.declared.Refusal.the-variants.{Damaged, Output, Block}
+use Rattle.calls.specs.declared.Refusal.the-variants.{Midround, Damaged, Output, Block}
 use Rattle.calls.specs.declared.Check.{Check}
 use Rattle.calls.specs.declared.Check.the-variants.{Clear, Refused}
-use Rattle.calls.proofs.Laws.{first-next, first-clear, then-clear}
+use Rattle.calls.proofs.Laws.{first-next, first-clear, then-clear, Passed, passed}
 use Rattle.sheets.specs.Sheet.{blocks, capacityIn, leavesIn, laid}
-use Rattle.sheets.specs.Results.{saveCheck, blockCheck, readCheck, loadedBoard}
+use Rattle.sheets.specs.Results.{saveMay, saveCheck, writtenCheck, blockCheck, readCheck, loadedBoard}
 
 block-clear : (b : Bool) → blockCheck b ≡ Clear → b ≡ false
 unfolding blockCheck
@@ -50,31 +51,28 @@ module _ (C : ℕ) (B : List ℕ) where
       sound true e = refl
       sound false e = let z : _≡_ {A = ℕ} 0 1 = cc in absurd (omega arith)
 
+-- save, one part after the other
+module _ (C : ℕ) (B : List ℕ) (n : ℕ) where
+  pub written-parts : writtenCheck C B n ≡ andThen (goodCheck C B) (refuseIf (ltb n (512 * blocks C)) Output Clear)
+  unfolding writtenCheck goodCheck
+  written-parts = first-next (Damaged ∷ []) (Output ∷ []) (askedOutput (driveAt C 1) B n (512 * blocks C))
+
 module _ (d : Drive) (B : List ℕ) (n : ℕ) where
-  save-parts : saveCheck d B n ≡ andThen (changeCheck d B) (refuseIf (ltb n (512 * blocks (d .capacity))) Output Clear)
-  unfolding saveCheck changeCheck
-  save-parts = first-next changeMay (Output ∷ []) (askedOutput d B n (512 * blocks (d .capacity)))
+  pub save-parts : saveCheck d B n ≡ andThen (slotCheck d B) (refuseIf (not (eqb (d .position) 1)) Midround (writtenCheck (d .capacity) B n))
+  unfolding saveCheck slotCheck writtenCheck
+  save-parts = first-next slotMay (Midround ∷ Damaged ∷ Output ∷ []) (askedOutput d B n (512 * blocks (d .capacity)))
 
-  -- save: what the checks of a change find, and then whether the output is too short
-  module _ (m : ℕ) (r : Check) (needed : m ≡ blocks (d .capacity)) (change : r ≡ changeCheck d B) where
-    pub save-unchanged : (x : Refusal) → r ≡ Refused x → Refused x ≡ saveCheck d B n
-    save-unchanged x e = sym (save-parts ∙ rw (← change, e))
+  -- what is known once save's checks find nothing
+  pub save-slot : saveCheck d B n ≡ Clear → slotCheck d B ≡ Clear
+  save-slot e = first-clear (slotCheck d B) _ (sym save-parts ∙ e)
 
-    pub save-output : r ≡ Clear → n < 512 * m → Refused Output ≡ saveCheck d B n
-    save-output e h = sym (save-parts ∙ rw (← change, e, ← needed, lt-ltb n (512 * m) h))
+  pub save-good : saveCheck d B n ≡ Clear → good (d .capacity) B ≡ true
+  unfolding saveCheck Passed applies
+  save-good e = not-false (good (d .capacity) B) (passed saveMay (askedOutput d B n (512 * blocks (d .capacity))) e .1 .1 .1 .1 .0)
 
-    pub save-passes : r ≡ Clear → 512 * m ≤ n → Clear ≡ saveCheck d B n
-    save-passes e h = sym (save-parts ∙ rw (← change, e, ← needed, le-ltb n (512 * m) h))
-
-  pub clear-change : saveCheck d B n ≡ Clear → changeCheck d B ≡ Clear
-  clear-change e = first-clear (changeCheck d B) (refuseIf (ltb n (512 * blocks (d .capacity))) Output Clear) (sym save-parts ∙ e)
-
-  pub clear-room : saveCheck d B n ≡ Clear → 512 * blocks (d .capacity) ≤ n
-  clear-room e = ltb-false n (512 * blocks (d .capacity)) (no-refusal (ltb n (512 * blocks (d .capacity))) (then-clear (changeCheck d B) (refuseIf (ltb n (512 * blocks (d .capacity))) Output Clear) (sym save-parts ∙ e)))
-    where
-      no-refusal : (b : Bool) → refuseIf b Output Clear ≡ Clear → b ≡ false
-      no-refusal true e = let z : _≡_ {A = ℕ} 0 1 = cc in absurd (omega arith)
-      no-refusal false e = refl
+  pub save-room : saveCheck d B n ≡ Clear → 512 * blocks (d .capacity) ≤ n
+  unfolding saveCheck Passed applies
+  save-room e = ltb-false n (512 * blocks (d .capacity)) (passed saveMay (askedOutput d B n (512 * blocks (d .capacity))) e .1 .1 .1 .1 .1 .0)
 
 -- a sheet that read accepts
 pub record Readable (s B : List ℕ) : Type 0 where

@@ -1,50 +1,50 @@
 -- The laws of sheets that upper crates and docs cite: what the test of read says, both halves of demand 2, that no second answer keeps a promise,
 -- that a refusal leaves everything as it was, and that a call answers only what it may. Assumes nothing.
 use mathlib.Core.Path.{_≡_, refl, sym, ap, subst, _∙_}
-use mathlib.Core.Bool.{Bool, true, false, not, _||_}
+use mathlib.Core.Bool.{true, not}
 use mathlib.Core.List.{List, [], _∷_, _++_}
 use Prim.Native.Nat.{ℕ, _+_, _-_, _*_, _^_, _≤_, _<_}
 use native.Mathlib.Omega.{arith}
 use native.Mathlib.Decide.{decLt}
 use lib.ListN.{length, getD, take, drop, length-append, List·getD-append, List·getD-eq-default}
 use lib.Seq.{getD-take, take-at, take-all}
-use lib.Dec.{eqb, ltb}
+use lib.Dec.{ltb}
 use borrow.Author.Tests.{le-ltb}
 use Rattle.pieces.specs.Board.{good}
 use Rattle.pieces.proofs.Laws.{good-same}
 use Rattle.sequences.specs.Board.{digits}
 use Rattle.sequences.proofs.Laws.{digits-lt}
 use Rattle.calls.specs.Records.{driveAt}
-use Rattle.calls.specs.Refusals.{refuseIf, andThen, applies, among, askedOutput, openCheck, changeCheck, goodCheck, positionCheck}
+use Rattle.calls.specs.Refusals.{Asked, firstOf, andThen, numbers, among, asked, askedOpen, askedOutput, openMay, openCheck, goodCheck, positionCheck}
 use Rattle.calls.specs.declared.Drive.{Drive}
-use Rattle.calls.specs.declared.Refusal.the-variants.{Capacity, Short, Damaged, Block}
+use Rattle.calls.specs.declared.Refusal.{Refusal}
+use Rattle.calls.specs.declared.Refusal.the-variants.{Damaged, Block}
 use Rattle.calls.specs.declared.Check.{Check}
 use Rattle.calls.specs.declared.Check.the-variants.{Clear, Refused}
-use Rattle.calls.specs.Answers.{Answer, answered}
-use Rattle.calls.proofs.Laws.{Refuses, refuses, kept, zeros, may, ascending, Sized, open-clear, open-sized, slot-sized, change-slot, change-good, slot-parts, change-parts}
+use Rattle.calls.proofs.Laws.{unique, Refuses, refuses, refusal, may, first-among, Within, within-among, first-within, then-within, covers, part-within, ascending, Sized, open-clear, open-sized, slot-sized, slot-parts}
 use Rattle.sheets.specs.declared.Saved.{Saved}
 use Rattle.sheets.specs.declared.Saving.the-variants as saving
 use Rattle.sheets.specs.declared.Loaded.{Loaded}
 use Rattle.sheets.specs.declared.Loading.the-variants as loading
 use Rattle.sheets.specs.Blocks.{Bytes, Words, listed, bytesOf, block, stack}
 use Rattle.sheets.specs.Sheet.{blocks, leafOf, page, sheet, capacityIn, place, leafIn, leavesIn, laid, Layout}
-use Rattle.sheets.specs.Results.{saveMay, saveCheck, savingBy, saved, savedOutput, savingAnswer, readMay, blockCheck, readCheck, loadingBy, loaded, loadedBoard, loadingAnswer}
+use Rattle.sheets.specs.Results.{saveMay, saveCheck, savingBy, saved, savedAnswer, savedOutput, savingAnswer, readMay, askedSheet, blockCheck, readCheck, loadingBy, loaded, loadedAnswer, loadedBoard, loadingAnswer}
 use Rattle.sheets.specs.Promises.{Saves, Loads}
 use Rattle.sheets.proofs.Lists.{listed-at}
 use Rattle.sheets.proofs.Numbers.{number-small}
 use Rattle.sheets.proofs.Layouts.{sheet-length, sheet-layout, sheet-leaves, layout-sheet, laid-layout, layout-laid}
 use Rattle.sheets.proofs.Stores.{leaves-length, leaves-taken}
-use Rattle.sheets.proofs.Checked.{good-check, check-good, Readable, read-clear, clear-read, save-passes, clear-change}
+use Rattle.sheets.proofs.Checked.{good-check, check-good, Readable, read-clear, clear-read, written-parts, save-parts, save-slot, save-good}
 
--- what passes the checks of a change
+-- what passes the checks of save
 position-first : (C : ℕ) → 0 < C → positionCheck C 1 ≡ Clear
 unfolding positionCheck
 position-first C pos = rw (le-ltb (2 ^ digits C - 1) 1 (omega (arith, digits-lt C)))
 
-change-first : (C : ℕ) (B : List ℕ) → Sized C B → good C B ≡ true → changeCheck (driveAt C 1) B ≡ Clear
-change-first C B s g =
-    change-parts (driveAt C 1) B
-    ∙ rw (slot-parts (driveAt C 1) B, open-sized C B s, position-first C (s .some), good-check C B g)
+save-first : (C : ℕ) (B : List ℕ) (n : ℕ) → Sized C B → good C B ≡ true → 512 * blocks C ≤ n → saveCheck (driveAt C 1) B n ≡ Clear
+save-first C B n s g room =
+    save-parts (driveAt C 1) B n
+    ∙ rw (slot-parts (driveAt C 1) B, open-sized C B s, position-first C (s .some), written-parts C B n, good-check C B g, le-ltb n (512 * blocks C) room)
 
 -- a sheet hangs on the leaves alone
 sheet-taken : (C : ℕ) (B D : List ℕ) → take C B ≡ take C D → sheet C B ≡ sheet C D
@@ -93,7 +93,7 @@ module _ (d : Drive) (B O L : List ℕ) (n : ℕ) (words : Words B) (done : save
   clear = saving-done (saveCheck d B (length O)) (512 * blocks (d .capacity)) n done .0
 
   sized : Sized (d .capacity) B
-  sized = slot-sized d B (change-slot d B (clear-change d B (length O) clear))
+  sized = slot-sized d B (save-slot d B (length O) clear)
 
   -- the bytes that save says it wrote
   written : take n (savedOutput d B O) ≡ sheet (d .capacity) B
@@ -113,7 +113,7 @@ module _ (d : Drive) (B O L : List ℕ) (n : ℕ) (words : Words B) (done : save
   sound : good (d .capacity) (take (d .capacity) B) ≡ true
   sound =
       good-same (d .capacity) B (take (d .capacity) B) (λ i h. sym (getD-take (d .capacity) B i 0 h))
-      (change-good d B (clear-change d B (length O) clear))
+      (save-good d B (length O) clear)
 
   readable : Readable (sheet (d .capacity) B) L
   unfolding blocks
@@ -172,10 +172,7 @@ module _ (s L O : List ℕ) (bytes : Bytes s) (done : loaded s L .answer ≡ loa
       ∙ sym (layout-sheet (capacityIn s) s bytes keeps)
 
   saves : saveCheck (driveAt (capacityIn s) 1) board (length O) ≡ Clear
-  saves =
-      sym
-      (save-passes (driveAt (capacityIn s) 1) board (length O) (blocks (capacityIn s)) Clear refl
-      (sym (change-first (capacityIn s) board fits good-board)) refl (omega (arith, keeps .long)))
+  saves = save-first (capacityIn s) board (length O) fits good-board (omega (arith, keeps .long))
 
   pub demand-2-only-such-sheets :
       (saved (loaded s L .drive) (loadedBoard s L) O ≡ record { drive = loaded s L .drive; answer = saving.Done (length s) })
@@ -192,48 +189,42 @@ save-ascending = refl
 -- No second answer fits, a refusal leaves everything as it was, and a call answers only what it may.
 module _ (d : Drive) (B O : List ℕ) where
   pub save-unique : {r q : Saved} {E F : List ℕ} → Saves d B O r E → Saves d B O q F → (r ≡ q) × (E ≡ F)
-  save-unique h k = (h .0 ∙ sym (k .0), h .2 ∙ sym (k .2))
+  save-unique h k = (unique (h .0) (k .0), unique (h .2) (k .2))
 
   pub save-refused : {r : Saved} {E : List ℕ} → Saves d B O r E → Refuses (savingAnswer (r .answer))
       → (r .drive ≡ d) × (savingAnswer (r .answer) .values ≡ 0 ∷ []) × (E ≡ O)
-  save-refused h f =
-      let size = 512 * blocks (d .capacity) in
-      let check = saveCheck d B (length O) in
-      let n = refuses (h .1) f in (
-        ap (λ (q : Saved). q .drive) (h .0),
-        ap (λ (a : Answer). a .values) (h .1) ∙ zeros check (size ∷ []) n,
-        h .2 ∙ kept check (size ∷ []) (sheet (d .capacity) B ++ drop size O) O n,
-      )
+  save-refused h f = rw (h .0, h .2, refusal (saveCheck d B (length O)) (refuses (h .1) f) .1) (refl, refl, refl)
+
+  pub save-answers : among (savedAnswer d B O .number) saveMay ≡ true
+  unfolding saveCheck
+  save-answers = first-among saveMay (askedOutput d B (length O) (512 * blocks (d .capacity)))
 
   pub save-may : {r : Saved} {E : List ℕ} → Saves d B O r E → among (savingAnswer (r .answer) .number) saveMay ≡ true
-  unfolding saveCheck
-  save-may h = may saveMay (askedOutput d B (length O) (512 * blocks (d .capacity))) (512 * blocks (d .capacity) ∷ []) (h .1)
+  save-may h = may saveMay (h .1) save-answers
 
--- what read answers, by its five tests
-read-among : (short size lent layout bad : Bool)
-    → among (answered (andThen (refuseIf short Block Clear) (andThen (refuseIf size Capacity (refuseIf lent Short Clear)) (andThen (refuseIf layout Block Clear) (refuseIf bad Damaged Clear)))) [] .number) readMay ≡ true
-unfolding among
-read-among true size lent layout bad = refl
-read-among false true lent layout bad = refl
-read-among false false true layout bad = refl
-read-among false false false true bad = refl
-read-among false false false false true = refl
-read-among false false false false false = refl
+-- a part of the checks of read keeps to its list
+part : (rs : List Refusal) (a : Asked) → covers (numbers readMay) (numbers rs) ≡ true → Within (numbers readMay) (firstOf rs a)
+part rs a c = part-within (numbers readMay) (numbers rs) (firstOf rs a) c (first-within rs a)
 
 module _ (s B : List ℕ) where
   pub read-unique : {r q : Loaded} {E F : List ℕ} → Loads s B r E → Loads s B q F → (r ≡ q) × (E ≡ F)
-  read-unique h k = (h .0 ∙ sym (k .0), h .2 ∙ sym (k .2))
+  read-unique h k = (unique (h .0) (k .0), unique (h .2) (k .2))
 
   pub read-refused : {r : Loaded} {E : List ℕ} → Loads s B r E → Refuses (loadingAnswer (r .answer)) → (r .drive ≡ driveAt 0 0) × (E ≡ B)
-  read-refused h f =
+  read-refused h f = rw (h .0, h .2, refusal (readCheck s B) (refuses (h .1) f) .1) (refl, refl)
+
+  pub read-answers : among (loadedAnswer s B .number) readMay ≡ true
+  unfolding readCheck blockCheck openCheck goodCheck covers
+  read-answers =
       let C = capacityIn s in
-      let n = refuses (h .1) f in (
-        ap (λ (q : Loaded). q .drive) (h .0) ∙ kept (readCheck s B) [] (driveAt C 1) (driveAt 0 0) n,
-        h .2 ∙ kept (readCheck s B) [] (leavesIn C s ++ drop C B) B n,
-      )
+      let ns = numbers readMay in
+      let good = goodCheck C (leavesIn C s) in
+      let laying = blockCheck (not (laid C s)) in
+      let lent = openCheck C B in
+      within-among readMay (readCheck s B)
+      (then-within ns (blockCheck (ltb (length s) 512)) (andThen lent (andThen laying good)) (part (Block ∷ []) (askedSheet (ltb (length s) 512)) refl)
+      (then-within ns lent (andThen laying good) (part openMay (askedOpen C B) refl)
+      (then-within ns laying good (part (Block ∷ []) (askedSheet (not (laid C s))) refl) (part (Damaged ∷ []) (asked (driveAt C 1) (leavesIn C s)) refl))))
 
   pub read-may : {r : Loaded} {E : List ℕ} → Loads s B r E → among (loadingAnswer (r .answer) .number) readMay ≡ true
-  unfolding readCheck blockCheck openCheck goodCheck applies
-  read-may h =
-      ap (λ (b : Answer). among (b .number) readMay) (h .1)
-      ∙ read-among (ltb (length s) 512) (eqb (capacityIn s) 0 || ltb 4095 (capacityIn s)) (ltb (length B) (capacityIn s)) (not (laid (capacityIn s) s)) (not (good (capacityIn s) (leavesIn (capacityIn s) s)))
+  read-may h = may readMay (h .1) read-answers

@@ -49,6 +49,11 @@ unfoldable pub saveCheck : Drive → List ℕ → ℕ → Check
 unfolding firstOf
 saveCheck d B n = firstOf saveMay (askedOutput d B n (512 * blocks (d .capacity)))
 
+-- What the last part of save's checks finds, of a capacity, a board and an output alone.
+unfoldable pub writtenCheck : ℕ → List ℕ → ℕ → Check
+unfolding firstOf
+writtenCheck C B n = firstOf (Damaged ∷ Output ∷ []) (askedOutput (driveAt C 1) B n (512 * blocks C))
+
 abbrev pub saved : Drive → List ℕ → List ℕ → Saved
 saved d B O = record { drive = d; answer = savingBy (saveCheck d B (length O)) (512 * blocks (d .capacity)) }
 

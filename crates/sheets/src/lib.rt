@@ -6,7 +6,7 @@ ghost use lib.ListN.{length, drop, replicate};
 ghost use Rattle.calls.specs.Refusals.{goodCheck};
 ghost use Rattle.calls.specs.Results.{ifClear};
 ghost use Rattle.sheets.specs.Sheet.{blocks, leavesIn};
-ghost use Rattle.sheets.specs.Results.{readCheck, loadedBoard, saveCheck};
+ghost use Rattle.sheets.specs.Results.{readCheck, loadedBoard, saveCheck, writtenCheck};
 ghost use Rattle.sheets.specs.Promises.{Saves, Loads};
 use calls::Check;
 use calls::Drive;
@@ -81,17 +81,33 @@ fn load(sheet: &[u8], board: &mut [u16]) -> Check
     }
 }
 
+// The refusals 5 and 11, of a board that is to be written and an output of so many bytes.
+fn check_written(board: &[u16], c: usize, output: usize) -> Check
+    requires { ⌜ (c ≤ length (now board)) × (c ≤ 4095) ⌝ }
+    ensures { λ r. ⌜ r ≡ writtenCheck c (now (board .entry)) output ⌝ }
+{
+    if pieces::good(board, c) {
+        if output < 512 * leaves::block_count(c) {
+            Check::Refused(Refusal::Output)
+        } else {
+            Check::Clear
+        }
+    } else {
+        Check::Refused(Refusal::Damaged)
+    }
+}
+
 // The refusals 1 to 5 and 11, of an output of so many bytes.
 fn check_save(drive: Drive, board: &[u16], output: usize) -> Check
     ensures { λ r. ⌜ r ≡ saveCheck drive (now (board .entry)) output ⌝ }
 {
-    match drive.check_change(board) {
+    match drive.check_slot(board) {
         Check::Refused(r) => Check::Refused(r),
         Check::Clear => {
-            if output < 512 * leaves::block_count(drive.capacity as usize) {
-                Check::Refused(Refusal::Output)
+            if drive.position == 1 {
+                check_written(board, drive.capacity as usize, output)
             } else {
-                Check::Clear
+                Check::Refused(Refusal::Midround)
             }
         }
     }
