@@ -3,7 +3,6 @@ ghost use mathlib.Core.Path.{_≡_};
 ghost use mathlib.Core.List.{_++_};
 ghost use Prim.Native.Nat.{_≤_};
 ghost use lib.ListN.{length, drop};
-ghost use Rattle.sequences.specs.Sequences.{Reversing};
 ghost use Rattle.sequences.specs.Board.{Position};
 ghost use Rattle.calls.specs.Records.{driveAt, movedTo};
 ghost use Rattle.calls.specs.Refusals.{numberOf};
@@ -242,8 +241,7 @@ impl Drive {
                 answer: Rounding::Refused(r),
             },
             Check::Clear => {
-                let table = sequences::table::time_slots();
-                write_round(&table, board, self.capacity as usize, output);
+                write_round(board, self.capacity as usize, output);
                 Rounded {
                     drive: self,
                     answer: Rounding::Done,
@@ -291,14 +289,14 @@ fn make_idle(board: &mut [u16], c: usize)
 }
 
 // Writes the names of the c slots from position 1 on to the start of the output.
-fn write_round(table: &[u16], board: &[u16], c: usize, output: &mut [u16])
-    requires { ⌜ Reversing (now table) × (Position c 1) × (c ≤ length (now board)) × (c ≤ length (now output)) ⌝ }
+fn write_round(board: &[u16], c: usize, output: &mut [u16])
+    requires { ⌜ (Position c 1) × (c ≤ length (now board)) × (c ≤ length (now output)) ⌝ }
     ensures { λ _. ⌜ now (output .exit) ≡ results.roundNames c (now (board .entry)) ++ drop c (now (output .entry)) ⌝ }
 {
     let mut p: usize = 1;
     let mut i: usize = 0;
     while i < c {
-        let served = sequences::pick_by(table, c, p);
+        let served = sequences::pick(c, p);
         let at = served.leaf;
         output[i] = board[at];
         p = served.next;

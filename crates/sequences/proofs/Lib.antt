@@ -1,6 +1,5 @@
 -- What upper crates cite is Laws. The rest is inner.
 mod Tests
-mod Tabled
 mod Reverse
 mod Zeros
 mod Lists

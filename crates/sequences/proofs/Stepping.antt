@@ -71,12 +71,6 @@ module _ (C p : ℕ) (at : Position C p) where
   pub column-64 : column C p + term 64 p ≡ digits C
   column-64 = let e = column-add in let f = term-64 in omega arith
 
-  pub index-small : p / 2 ^ term 64 p < 2048
-  index-small =
-      let l : 2 ^ column C p ≤ 2 ^ 11 = pow-mono column-small in
-      let g = index-lt in
-      rw term-64 (omega arith)
-
   pub leaf-64 : leafAt C p ≡ start C (column C p) + rb (p / 2 ^ term 64 p) (column C p)
   unfolding leafAt
   leaf-64 = rw term-64

@@ -1,9 +1,7 @@
 -- The two sequences of source document 001 (G-3), as lists and by its own recursions, and the reversal of a number's binary digits.
 -- Assumes nothing.
-use mathlib.Core.Path.{_≡_}
 use mathlib.Core.List.{List, [], _∷_, _++_, map}
-use Prim.Native.Nat.{ℕ, zero, suc, _+_, _*_, _/_, _%_, _^_, _<_}
-use lib.ListN.{length, getD}
+use Prim.Native.Nat.{ℕ, zero, suc, _+_, _*_, _/_, _%_, _^_}
 
 -- The weight spread sequence of order k (equations 6 and 7): order k + 1 is order k, then k + 1, then order k again.
 -- Order 0 is empty, which makes order 1 the one term 1.
@@ -20,8 +18,3 @@ tss (suc n) = map (λ b. 2 * b) (tss n) ++ map (λ b. 2 * b + 1) (tss n)
 unfoldable pub rb : ℕ → ℕ → ℕ
 rb i zero = zero
 rb i (suc j) = i % 2 * 2 ^ j + rb (i / 2) j
-
--- A table whose entry i is RB(i, 11), for each i below 2,048.
-pub record Reversing (T : List ℕ) : Type 0 where
-  pub size : length T ≡ 2048
-  pub rule : (i : ℕ) → i < 2048 → getD T i 0 ≡ rb i 11

@@ -2,18 +2,31 @@
 // What each function returns is a definition of specs/. All numbers are usize: a capacity, a position and a leaf are below 4,096.
 ghost use mathlib.Core.Path.{_≡_};
 ghost use Prim.Native.Nat.{_^_, _<_, _≤_};
-ghost use Rattle.sequences.specs.Sequences.{rb, Reversing};
+ghost use Rattle.sequences.specs.Sequences.{rb};
 ghost use Rattle.sequences.specs.Board as board;
 ghost use Rattle.sequences.specs.Slots.{slotFrom};
 
-pub mod table;
+// The 3 lowest binary digits of i, reversed. Each is taken by itself, the highest too, so that the compiler sees that digits are reversed and no more:
+// where the processor has an instruction for that, `reversed` is one.
+fn three(i: usize) -> usize
+    ensures { λ r. ⌜ (r ≡ rb i 3) × (r < 8) ⌝ }
+{
+    i % 2 * 4 + i / 2 % 2 * 2 + i / 4 % 2
+}
 
-// RB(i, j): the j lowest binary digits of i, reversed. It is entry i of the time-slot sequence of order 11 divided by 2^(11-j).
-fn reversed(table: &[u16], i: usize, j: usize) -> usize
-    requires { ⌜ Reversing (now table) × (i < 2048) × (j ≤ 11) ⌝ }
+// The 6 lowest binary digits of i, reversed: two threes, which change places.
+fn six(i: usize) -> usize
+    ensures { λ r. ⌜ (r ≡ rb i 6) × (r < 64) ⌝ }
+{
+    three(i) * 8 + three(i / 8)
+}
+
+// RB(i, j): the j lowest binary digits of i, reversed. They are the highest j of the 12 lowest reversed.
+fn reversed(i: usize, j: usize) -> usize
+    requires { ⌜ j ≤ 11 ⌝ }
     ensures { λ r. ⌜ r ≡ rb i j ⌝ }
 {
-    (table[i] as usize) >> (11 - j)
+    (six(i) * 64 + six(i / 64)) >> (12 - j)
 }
 
 // The number of binary digits of c.
@@ -55,12 +68,12 @@ fn start(c: usize, j: usize) -> usize
 }
 
 // The leaf that the term at p serves.
-fn leaf(table: &[u16], c: usize, p: usize) -> usize
-    requires { ⌜ Reversing (now table) × board.Position c p ⌝ }
+fn leaf(c: usize, p: usize) -> usize
+    requires { ⌜ board.Position c p ⌝ }
     ensures { λ r. ⌜ r ≡ board.leafAt c p ⌝ }
 {
     let j = column(c, p);
-    start(c, j) + reversed(table, p >> term(p), j)
+    start(c, j) + reversed(p >> term(p), j)
 }
 
 // The position after p in a round of order k.
@@ -78,25 +91,16 @@ pub struct Slot {
     pub next: usize,
 }
 
-// The slot from position p of a board with c leaves, by a table that the caller holds.
-pub fn pick_by(table: &[u16], c: usize, p: usize) -> Slot
-    requires { ⌜ Reversing (now table) × board.Position c p ⌝ }
-    ensures { λ r. ⌜ r ≡ slotFrom c p ⌝ }
-{
-    let passed = 1 - bit(c, column(c, p));
-    let served = p + passed;
-    Slot {
-        leaf: leaf(table, c, served),
-        passed,
-        next: after(digits(c), served),
-    }
-}
-
 // The slot from position p of a board with c leaves.
 pub fn pick(c: usize, p: usize) -> Slot
     requires { ⌜ board.Position c p ⌝ }
     ensures { λ r. ⌜ r ≡ slotFrom c p ⌝ }
 {
-    let table = table::time_slots();
-    pick_by(&table, c, p)
+    let passed = 1 - bit(c, column(c, p));
+    let served = p + passed;
+    Slot {
+        leaf: leaf(c, served),
+        passed,
+        next: after(digits(c), served),
+    }
 }

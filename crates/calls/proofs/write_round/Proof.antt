@@ -15,31 +15,31 @@ use Rattle.calls.proofs.write_round.Statement.{statement}
 use Rattle.calls.proofs.write_round.Tie as tie
 
 abbrev Inv-loop : tie.InvT-loop
-Inv-loop table board c output₀ p₀ i₀ output p i =
+Inv-loop board c output₀ p₀ i₀ output p i =
     (i ≤ c) × (length output ≡ length output₀) × (p ≡ afterSlots c 1 i) × (output ≡ namesOver c board i output₀)
 
 abbrev μ-loop : tie.MeasureT-loop
-μ-loop table board c output₀ p₀ i₀ output p i = c - i
+μ-loop board c output₀ p₀ i₀ output p i = c - i
 
 -- the position is one of the round
-valid : (c : tie.At-loop Inv-loop μ-loop) → Position (c .before .before .before .before .args .c) (c .loop .p)
+valid : (c : tie.At-loop Inv-loop μ-loop) → Position (c .before .before .before .args .c) (c .loop .p)
 valid c =
-    let a = c .before .before .before .before in
-    rw (c .loop .inv .2) (after-slots-valid (a .args .c) 1 (c .loop .i) (a .pre .1))
+    let a = c .before .before .before in
+    rw (c .loop .inv .2) (after-slots-valid (a .args .c) 1 (c .loop .i) (a .pre .0))
 
 -- the leaf is on the board
-within : (c : tie.After-pick-by Inv-loop μ-loop) → c .pick-by .result .leaf < c .before .before .before .before .before .before .args .c
+within : (c : tie.After-pick Inv-loop μ-loop) → c .pick .result .leaf < c .before .before .before .before .before .args .c
 within c =
-    let a = c .before .before .before .before .before .before .args in
+    let a = c .before .before .before .before .before .args in
     let L = c .before .before in
-    rw (ap (λ (s : Slot). s .leaf) (c .pick-by .ensures)) (leaf-below (a .c) (L .loop .p) (valid L))
+    rw (ap (λ (s : Slot). s .leaf) (c .pick .ensures)) (leaf-below (a .c) (L .loop .p) (valid L))
 
 loop-holds : tie.Need-loop-holds Inv-loop μ-loop
 unfolding afterSlots
 loop-holds c = (search needs, search needs, search needs, names-none _ _ _)
 
-pick-by-requires : tie.Need-pick-by-requires Inv-loop μ-loop
-pick-by-requires c κs = (c .before .before .before .before .before .pre .0, valid (c .before))
+pick-requires : tie.Need-pick-requires Inv-loop μ-loop
+pick-requires c κs = valid (c .before)
 
 mul-output : tie.Need-mul-output Inv-loop μ-loop
 mul-output c = let h = within c in omega arith
@@ -62,9 +62,9 @@ loop-less c = search needs
 loop-again : tie.Need-loop-again Inv-loop μ-loop
 loop-again c =
     let L = c .before .before .before .loop in
-    let a = c .before .before .before .before .before .before .before .args in
-    let next : c .before .pick-by .result .next ≡ nextFrom (a .c) (L .p) = ap (λ (s : Slot). s .next) (c .before .pick-by .ensures) in
-    let leaf : c .before .pick-by .result .leaf ≡ leafAt (a .c) (servedFrom (a .c) (L .p)) = ap (λ (s : Slot). s .leaf) (c .before .pick-by .ensures) in
+    let a = c .before .before .before .before .before .before .args in
+    let next : c .before .pick .result .next ≡ nextFrom (a .c) (L .p) = ap (λ (s : Slot). s .next) (c .before .pick .ensures) in
+    let leaf : c .before .pick .result .leaf ≡ leafAt (a .c) (servedFrom (a .c) (L .p)) = ap (λ (s : Slot). s .leaf) (c .before .pick .ensures) in
     let room : L .i < length (a .output .now) = omega arith in (
       search needs,
       search needs,
@@ -78,7 +78,7 @@ same-length c = search needs
 returns : tie.Need-returns Inv-loop μ-loop
 unfolding namesOver
 returns c =
-    let e : c .before .loop .i ≡ c .before .before .before .before .before .args .c = omega arith in
+    let e : c .before .loop .i ≡ c .before .before .before .before .args .c = omega arith in
     rw e at (c .before .loop .inv .3)
 
 pub write-round-spec : {M : Type 1} → statement M
@@ -88,7 +88,7 @@ write-round-spec =
     Inv-loop
     μ-loop
     loop-holds
-    pick-by-requires
+    pick-requires
     mul-output
     shared-slice-read-output
     mul-output-2

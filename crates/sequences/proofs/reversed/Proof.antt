@@ -1,21 +1,25 @@
 -- `sequences::reversed` meets its contract.
 -- Assumes nothing.
-use mathlib.Core.Path.{ap, _∙_}
-use Prim.Native.Nat.{ℕ, _-_, _/_, _^_}
+use mathlib.Core.Path.{_≡_, ap, _∙_}
+use Prim.Native.Nat.{ℕ, _+_, _-_, _*_, _/_, _^_}
 use native.Mathlib.Omega.{arith}
 use borrow.Author.Needs.{needs}
-use Rattle.sequences.proofs.Reverse.{rb-from}
+use Rattle.sequences.specs.Sequences.{rb}
+use Rattle.sequences.proofs.Reverse.{rb-split, rb-from}
 use Rattle.sequences.proofs.reversed.Statement.{statement}
 use Rattle.sequences.proofs.reversed.Tie as tie
+
+six-requires : tie.Need-six-requires
+six-requires c κs = search needs
 
 mul-result : tie.Need-mul-result
 mul-result c = search needs
 
-shared-slice-read-result : tie.Need-shared-slice-read-result
-shared-slice-read-result c = omega arith
+six-requires-2 : tie.Need-six-requires-2
+six-requires-2 c κs = search needs
 
-cast-result : tie.Need-cast-result
-cast-result c = omega (arith, c .shared-slice-known .given (c .before .args .i))
+add-result : tie.Need-add-result
+add-result c = search needs
 
 sub-result : tie.Need-sub-result
 sub-result c = search needs
@@ -23,11 +27,16 @@ sub-result c = search needs
 shr-result : tie.Need-shr-result
 shr-result c = search needs
 
+-- The two sixes are the 12 digits.
+twelve : (c : tie.After-six2) → c .before .six .result * 64 + c .six2 .result ≡ rb (c .before .before .args .i) 12
+twelve c = omega (arith, rb-split (c .before .before .args .i) 6 6)
+
 returns : tie.Need-returns
 returns c =
-    let a = c .before .args in
-    let p = c .before .pre in
-    ap (λ (x : ℕ). x / 2 ^ (11 - a .j)) (p .0 .rule (a .i) (p .1)) ∙ rb-from (a .i) 11 (a .j) (p .2)
+    let a = c .before .before in
+    ap (λ (x : ℕ). x / 2 ^ (12 - a .args .j)) (twelve c) ∙ rb-from (a .args .i) 12 (a .args .j) (omega arith)
 
 pub reversed-spec : {M : Type 1} → statement M
-reversed-spec = tie.close (tie.spec mul-result shared-slice-read-result cast-result sub-result shr-result returns)
+reversed-spec =
+    tie.close
+    (tie.spec six-requires mul-result six-requires-2 add-result sub-result shr-result returns)

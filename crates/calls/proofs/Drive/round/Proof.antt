@@ -17,20 +17,14 @@ enum-known-r c = search needs
 enum-told : tie.Need-enum-told
 enum-told c = search needs
 
-time-slots-requires : tie.Need-time-slots-requires
-time-slots-requires c κs = search needs
-
-slice-aggregate-write-round : tie.Need-slice-aggregate-write-round
-slice-aggregate-write-round c = search needs
-
 cast-write-round : tie.Need-cast-write-round
 cast-write-round c = search needs
 
 write-round-requires : tie.Need-write-round-requires
 write-round-requires c κs =
-    let e = sym (c .before .before .before .before .before .before .check-round .ensures) ∙ c .before .before .before .before .enum-told .given .1 in
+    let e = sym (c .before .before .before .before .check-round .ensures) ∙ c .before .before .enum-told .given .1 in
     let s = slot-sized _ _ (round-slot _ _ _ e) in
-    (c .before .before .before .time-slots .ensures, first-position _ (s .some) (omega arith), s .long, round-room _ _ _ e)
+    (first-position _ (s .some) (omega arith), s .long, round-room _ _ _ e)
 
 returns : tie.Need-returns
 returns c =
@@ -42,7 +36,7 @@ same-length c = search needs
 
 returns-2 : tie.Need-returns-2
 returns-2 c =
-    let e = sym (c .before .before .before .before .before .before .before .before .before .check-round .ensures) ∙ c .before .before .before .before .before .before .before .enum-told .given .1 in
+    let e = sym (c .before .before .before .before .before .before .before .check-round .ensures) ∙ c .before .before .before .before .before .enum-told .given .1 in
     (simp e, simp e, simp (e, c .before .before .write-round .ensures))
 
 pub round-spec : {M : Type 1} → statement M
@@ -52,8 +46,6 @@ round-spec =
     check-round-requires
     enum-known-r
     enum-told
-    time-slots-requires
-    slice-aggregate-write-round
     cast-write-round
     write-round-requires
     returns
