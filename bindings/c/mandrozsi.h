@@ -73,8 +73,9 @@ mandrozsi_reply mandrozsi_slot(mandrozsi_drive drive, const uint16_t *board, siz
  * Refused: 1 to 3, 11. */
 mandrozsi_reply mandrozsi_round(mandrozsi_drive drive, const uint16_t *board, size_t entries, uint16_t *output, size_t length);
 
-/* Reports on a stream. Done: first = its weight w, second = its number of pieces, third = C / w rounded up.
- * Refused: 1 to 3, 5, 6, 9. */
+/* Reports on a stream. Done: first = its weight, second = its number of pieces, third = its spacing: the largest number of slots from one
+ * serve to the next over two rounds of the board, the end of the round included; C for a stream that is served once a round. It walks the
+ * round, and costs about as much as mandrozsi_round. Refused: 1 to 3, 5, 6, 9. */
 mandrozsi_reply mandrozsi_report(mandrozsi_drive drive, const uint16_t *board, size_t entries, uint16_t name);
 
 /* Writes the board's sheet to the start of the output and nothing beyond it. Done: first = the bytes written.

@@ -117,7 +117,8 @@ pub struct Slot {
     pub passed: u16,
 }
 
-/// A report: a stream's weight, its number of pieces, and C / weight rounded up.
+/// A report: a stream's weight, its number of pieces, and its spacing, the largest number of slots from one serve to the next over two rounds of
+/// the board, the end of the round included. A stream that is served once a round has spacing C.
 #[derive(Clone, Copy, Debug, PartialEq, Eq)]
 pub struct Stream {
     pub weight: u16,

@@ -1,10 +1,10 @@
 -- The laws of the calls that document 01 asks for and upper crates cite: no second answer, record or slice fits a promise; a refusal leaves everything as it
--- was; a call answers only what it may; a round tells the whole board.
+-- was; a call answers only what it may; a round tells the whole board; what the spacing of a stream is.
 -- Assumes nothing.
 use mathlib.Core.Path.{_≡_, refl}
 use mathlib.Core.Bool.{Bool, true, _&&_}
 use mathlib.Core.List.{List, [], _∷_, map}
-use Prim.Native.Nat.{ℕ, zero, suc, _≤_, _<_}
+use Prim.Native.Nat.{ℕ, zero, suc, _/_, _%_, _^_, _≤_, _<_}
 use native.Mathlib.Decide.{decLt}
 use native.Mathlib.Nat.{le-refl}
 use native.Mathlib.Omega.{arith}
@@ -28,14 +28,23 @@ use Rattle.calls.specs.declared.Reported.{Reported}
 use Rattle.calls.specs.Records.{driveAt}
 use Rattle.calls.specs.Refusals.{Asked, numberOf, applies, firstOf, among, openMay, addMay, removeMay, slotMay, roundMay, reportMay, askedOpen, askedAdd, askedName, asked, askedOutput, openCheck, addCheck, removeCheck, slotCheck, roundCheck, reportCheck}
 use Rattle.calls.specs.Answers.{openingAnswer, changeAnswer, servingAnswer, roundingAnswer, reportAnswer}
-use Rattle.calls.specs.Results.{openedAnswer, addedAnswer, addedBoard, removedAnswer, removedBoard, servedAnswer, slotNames, roundNames, roundedAnswer, reportedAnswer}
+use Rattle.calls.specs.Results.{openedAnswer, addedAnswer, addedBoard, removedAnswer, removedBoard, servedAnswer, slotNames, roundNames, roundedAnswer, reportedSpacing, reportedAnswer}
 use Rattle.calls.proofs.Checking.{by-bool, add-clear, add-weight, remove-clear, remove-held}
 use Rattle.calls.proofs.Calling.{unique, Refuses, refuses, refusal, may, first-among, and-both}
+use Rattle.calls.specs.Spacing.{roundedUp}
+use Rattle.calls.proofs.Spaced as spaced
 use Rattle.calls.specs.Promises.{Opens, Adds, Removes, Serves, Rounds, Reports}
 -- ---- what is known once the checks of a call are clear
 
 unfoldable pub use Rattle.calls.proofs.Checking.{Passed}
 pub use Rattle.calls.proofs.Checking.{Sized, passed, first-next, first-clear, then-clear, open-clear, open-sized, slot-sized, slot-parts, change-parts, slot-position, change-slot, change-start, change-good, add-change, add-weight, add-clear, remove-change, remove-held, remove-clear, round-slot, round-room, report-slot, report-good, report-held}
+-- ---- spacing: the longest wait from one serve to the next (document 02, request No. 1)
+
+-- Over the names of any round: it is the largest distance around the circle of the round; the round is no more than as many times the spacing as the name is
+-- served; the spacing is at most the round, and all of it just where the name is served once. `gaps-..` say how a walk over the slots finds it.
+pub use Rattle.calls.proofs.Waits.{spacing-circle, spacing-least, spacing-whole, spacing-once, gaps-served, gaps-passed, gaps-within, gaps-around}
+-- On a board: a round serves each leaf of a name once, and twice C slots in a row are two rounds; a name with a run of 2 ^ l leaves waits C / 2 ^ l at most, rounded up.
+pub use Rattle.calls.proofs.Spaced.{leaves-times, names-times, two-rounds, run-wait}
 -- ---- what holds of every call
 
 unfoldable pub use Rattle.calls.proofs.Calling.{covers}
@@ -229,3 +238,31 @@ remove-shows d B x e r =
     let s = weight-same (d .capacity) (tidying.removed (d .capacity) B x) B x (round-tells (d .capacity) _ _ (omega (arith, p .small)) f) in
     let h = remove-held d B x e in
     omega (arith, removed-name (d .capacity) B x p)
+
+-- ---- the spacing that is reported
+
+module _ (d : Drive) (B : List ℕ) (x : ℕ) (clear : reportCheck d B x ≡ Clear) where
+  sized : Sized (d .capacity) B
+  sized = slot-sized d B (report-slot d B x clear)
+
+  few : d .capacity < 4096
+  few = omega (arith, sized .few)
+
+  held : 0 < weight (d .capacity) B x
+  held = let h = report-held d B x clear in omega arith
+
+  -- A report says C just where the stream is served once a round,
+  pub report-once : (reportedSpacing d B x ≡ d .capacity → weight (d .capacity) B x ≡ 1) × (weight (d .capacity) B x ≡ 1 → reportedSpacing d B x ≡ d .capacity)
+  report-once = spaced.once (d .capacity) B few x held
+
+  -- and never less than C over its weight, rounded up, which document 01 had;
+  pub report-least : roundedUp (d .capacity) (weight (d .capacity) B x) ≤ reportedSpacing d B x
+  report-least = spaced.least (d .capacity) B few x held
+
+  -- for a stream of one piece it says just that,
+  pub report-one-piece : number (d .capacity) B x ≡ 1 → reportedSpacing d B x ≡ roundedUp (d .capacity) (weight (d .capacity) B x)
+  report-one-piece = spaced.one-piece (d .capacity) B few x held (report-good d B x clear)
+
+  -- and for any stream no more than C over its largest piece, rounded up: 2 ^ l for the highest one of its weight, or any other one.
+  pub report-most : (l : ℕ) → weight (d .capacity) B x / 2 ^ l % 2 ≡ 1 → reportedSpacing d B x ≤ roundedUp (d .capacity) (2 ^ l)
+  report-most = spaced.piece-wait (d .capacity) B few x (report-good d B x clear)

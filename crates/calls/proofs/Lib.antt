@@ -2,5 +2,8 @@
 mod Checking
 mod Calling
 mod Writing
+mod Waits
+mod Runs
+mod Spaced
 mod Worked
 pub mod Laws

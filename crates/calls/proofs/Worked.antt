@@ -1,5 +1,5 @@
--- Boards worked by hand (document 01, P1 to P10): one statement over one table, computed. Each case is a run of acts, each given the record and the
--- board as the last one left them, with what document 01 says of each.
+-- Boards worked by hand (document 01, P1 to P10; document 02, No. 1): one statement over one table, computed. Each case is a run of acts, each given the
+-- record and the board as the last one left them, with what the documents say of each.
 -- Assumes nothing.
 use mathlib.Core.Path.{_≡_, refl}
 use mathlib.Core.List.{List, [], _∷_, map}
@@ -7,16 +7,17 @@ use Prim.Native.Nat.{ℕ, zero, suc}
 use lib.ListN.{take, replicate}
 use Rattle.sequences.specs.Board.{digits, leafAt, nextFrom}
 use Rattle.sequences.specs.Serving.{leavesFrom}
-use Rattle.pieces.specs.Board.{weight, sound, single, pieces, whole, uniform, nth}
+use Rattle.pieces.specs.Board.{weight, sound, single, pieces, whole, uniform, nth, sum}
 use Rattle.pieces.specs.Placing.{place, put, fill, spot, fit, first}
 use Rattle.pieces.specs.Tidying.{clear, tidy, step, pair, join, twin, move, copy}
 use Rattle.calls.specs.declared.Drive.{Drive}
 use Rattle.calls.specs.declared.Serving.{Serving}
 use Rattle.calls.specs.declared.Serving.the-variants.{Slot, Refused}
 use Rattle.calls.specs.Records.{driveAt}
-use Rattle.calls.specs.Refusals.{numberOf, openCheck, addCheck, removeCheck, slotCheck, changeCheck, roundCheck}
-use Rattle.calls.specs.Answers.{Answer, answered, openingAnswer, changeAnswer}
-use Rattle.calls.specs.Results.{idleBoard, slotNames, opened, openedBoard, added, addedBoard, removed, removedBoard, served, roundedOutput}
+use Rattle.calls.specs.Refusals.{numberOf, openCheck, addCheck, removeCheck, slotCheck, changeCheck, roundCheck, reportCheck}
+use Rattle.calls.specs.Answers.{Answer, answered, openingAnswer, changeAnswer, reportAnswer}
+use Rattle.calls.specs.Results.{idleBoard, slotNames, opened, openedBoard, added, addedBoard, removed, removedBoard, served, roundedOutput, reported}
+use Rattle.calls.specs.Spacing.{spacingIn}
 
 data Act : Type 0 where
   -- open a board of C leaves
@@ -25,6 +26,8 @@ data Act : Type 0 where
   lends : ℕ → List ℕ → Act
   adds : ℕ → ℕ → Act
   removes : ℕ → Act
+  -- what is reported of a name
+  reports : ℕ → Act
   -- the leaves that n slots serve
   serves : ℕ → Act
   -- the names of a round
@@ -55,6 +58,7 @@ act (opens C) d B = let lent : List ℕ = replicate C 9 in (opened C lent .drive
 act (lends C L) d B = (driveAt C 1, L, told (answered (changeCheck (driveAt C 1) L) []))
 act (adds x w) d B = (d, addedBoard d B x w, told (changeAnswer (added d B x w .answer)))
 act (removes x) d B = (d, removedBoard d B x, told (changeAnswer (removed d B x .answer)))
+act (reports x) d B = (d, B, told (reportAnswer (reported d B x .answer)))
 act (serves n) d B = let s = slots n d B in (s .0, B, s .1)
 act rounds d B = let lent : List ℕ = replicate (d .capacity) 9 in (d, B, roundedOutput d B lent)
 act looks d B = (d, B, take (d .capacity) B)
@@ -64,7 +68,7 @@ unfolding act
 run [] d B = []
 run (a ∷ rest) d B = let s = act a d B in s .2 ∷ run rest (s .0) (s .1)
 
--- acts, each with what document 01 says of it
+-- acts, each with what the documents say of it
 abbrev Case : Type 0
 Case = List (Act × List ℕ)
 
@@ -97,8 +101,12 @@ table =
     ∷ ((opens 1, 0 ∷ []) ∷ (adds 5 1, 0 ∷ 0 ∷ []) ∷ (adds 6 1, 10 ∷ 0 ∷ []) ∷ (adds 0 0, 6 ∷ 0 ∷ []) ∷ (adds 5 9, 8 ∷ 0 ∷ []) ∷ [])
     -- P10
     ∷ ((lends 2 (4 ∷ 0 ∷ []), 0 ∷ []) ∷ (lends 5 (4 ∷ 0 ∷ 0 ∷ 4 ∷ 0 ∷ []), 5 ∷ []) ∷ [])
+    -- No. 1: the board of the request; a stream on leaves 0, 1 and 3 of 5, and one served once; a board of one leaf; a stream that fills its board
+    ∷ ((opens 8, 0 ∷ []) ∷ (adds 7 3, 0 ∷ 5 ∷ []) ∷ (rounds, 7 ∷ 0 ∷ 7 ∷ 0 ∷ 7 ∷ 0 ∷ 0 ∷ 0 ∷ []) ∷ (reports 7, 0 ∷ 3 ∷ 2 ∷ 4 ∷ []) ∷ [])
+    ∷ ((lends 5 (7 ∷ 7 ∷ 2 ∷ 7 ∷ 0 ∷ []), 0 ∷ []) ∷ (reports 7, 0 ∷ 3 ∷ 2 ∷ 3 ∷ []) ∷ (reports 2, 0 ∷ 1 ∷ 1 ∷ 5 ∷ []) ∷ [])
+    ∷ ((lends 1 (5 ∷ []), 0 ∷ []) ∷ (reports 5, 0 ∷ 1 ∷ 1 ∷ 1 ∷ []) ∷ (lends 3 (4 ∷ 4 ∷ 4 ∷ []), 0 ∷ []) ∷ (reports 4, 0 ∷ 3 ∷ 2 ∷ 1 ∷ []) ∷ [])
     ∷ []
 
 worked : map (λ (c : Case). run (map (λ (s : Act × List ℕ). s .0) c) (driveAt 0 0) []) table ≡ map (λ (c : Case). map (λ (s : Act × List ℕ). s .1) c) table
-unfolding table run openCheck addCheck removeCheck slotCheck roundCheck changeCheck idleBoard slotNames digits leafAt nextFrom leavesFrom weight sound single pieces whole uniform place put fill spot nth fit first clear tidy step pair join twin move copy
+unfolding table run openCheck addCheck removeCheck slotCheck roundCheck changeCheck reportCheck spacingIn idleBoard slotNames digits leafAt nextFrom leavesFrom weight sound single pieces whole uniform sum place put fill spot nth fit first clear tidy step pair join twin move copy
 worked = refl

@@ -33,24 +33,24 @@ module _ (f : ℕ → ℕ) where
   map-length [] = refl
   map-length (x ∷ xs) = ap suc (map-length xs)
 
-  map-more : (xs : List ℕ) (x : ℕ) → map f (xs ++ (x ∷ [])) ≡ map f xs ++ (f x ∷ [])
-  map-more [] x = refl
-  map-more (y ∷ xs) x = ap (λ (l : List ℕ). f y ∷ l) (map-more xs x)
+  pub map-append : (xs ys : List ℕ) → map f (xs ++ ys) ≡ map f xs ++ map f ys
+  map-append [] ys = refl
+  map-append (x ∷ xs) ys = ap (λ (l : List ℕ). f x ∷ l) (map-append xs ys)
 
 module _ (C : ℕ) (B : List ℕ) where
-  slot-names-length : (n : ℕ) → length (slotNames C B n) ≡ n
+  pub slot-names-length : (n : ℕ) → length (slotNames C B n) ≡ n
   unfolding slotNames
   slot-names-length n = map-length (λ leaf. getD B leaf 0) (leavesFrom C 1 n) ∙ leaves-length C 1 n
 
   -- the name of slot n, counted from 0
-  slot-name : ℕ → ℕ
+  abbrev slot-name : ℕ → ℕ
   slot-name n = getD B (leafAt C (servedFrom C (afterSlots C 1 n))) 0
 
-  slot-names-more : (n : ℕ) → slotNames C B (suc n) ≡ slotNames C B n ++ (slot-name n ∷ [])
-  unfolding slotNames slot-name
+  pub slot-names-more : (n : ℕ) → slotNames C B (suc n) ≡ slotNames C B n ++ (slot-name n ∷ [])
+  unfolding slotNames
   slot-names-more n =
       ap (λ (l : List ℕ). map (λ leaf. getD B leaf 0) l) (leaves-more C 1 n)
-      ∙ map-more (λ leaf. getD B leaf 0) (leavesFrom C 1 n) (leafAt C (servedFrom C (afterSlots C 1 n)))
+      ∙ map-append (λ leaf. getD B leaf 0) (leavesFrom C 1 n) (leafAt C (servedFrom C (afterSlots C 1 n)) ∷ [])
 
   -- the output with the names of the first n slots of a round at its start
   unfoldable pub namesOver : ℕ → List ℕ → List ℕ
@@ -61,6 +61,6 @@ module _ (C : ℕ) (B : List ℕ) where
   names-none O = refl
 
   pub names-next : (n : ℕ) (O : List ℕ) → n < length O → set (namesOver n O) n (getD B (leafAt C (servedFrom C (afterSlots C 1 n))) 0) ≡ namesOver (suc n) O
-  unfolding namesOver slot-name
+  unfolding namesOver
   names-next n O h =
       write-next O (slotNames C B n) n (slot-names-length n) h (slot-name n) ∙ ap (λ (l : List ℕ). l ++ drop (suc n) O) (sym (slot-names-more n))

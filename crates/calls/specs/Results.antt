@@ -2,7 +2,7 @@
 -- A refused call gives back the record that it was given (open, one with C and p zero) and leaves every slice as it was.
 -- Assumes nothing.
 use mathlib.Core.List.{List, [], _∷_, _++_, map}
-use Prim.Native.Nat.{ℕ, _+_, _-_, _/_}
+use Prim.Native.Nat.{ℕ}
 use lib.ListN.{length, getD, drop, replicate}
 use Rattle.sequences.specs.Board.{leafAt, passedFrom, servedFrom, nextFrom}
 use Rattle.sequences.specs.Serving.{leavesFrom}
@@ -11,6 +11,7 @@ use Rattle.pieces.specs.Placing as placing
 use Rattle.pieces.specs.Tidying as tidying
 use Rattle.calls.specs.Records.{driveAt, movedTo}
 use Rattle.calls.specs.Answers.{Answer, answered}
+use Rattle.calls.specs.Spacing.{spacingIn}
 use Rattle.calls.specs.Refusals.{openCheck, addCheck, removeCheck, slotCheck, roundCheck, reportCheck}
 use Rattle.calls.specs.declared.Drive.{Drive}
 use Rattle.calls.specs.declared.Check.{Check}
@@ -142,12 +143,9 @@ rounded d B O = record { drive = d; answer = roundingBy (roundCheck d B (length 
 abbrev pub roundedAnswer : Drive → List ℕ → List ℕ → Answer
 roundedAnswer d B O = answered (roundCheck d B (length O)) []
 
--- report: weight, number of pieces, and spacing, which is C/w rounded up.
-abbrev pub spacing : ℕ → ℕ → ℕ
-spacing C w = (C + (w - 1)) / w
-
+-- report: weight, number of pieces, and spacing, read off the names of a round.
 abbrev pub reportedSpacing : Drive → List ℕ → ℕ → ℕ
-reportedSpacing d B x = spacing (d .capacity) (weight (d .capacity) B x)
+reportedSpacing d B x = spacingIn x (roundNames (d .capacity) B)
 
 abbrev pub reported : Drive → List ℕ → ℕ → Reported
 reported d B x =

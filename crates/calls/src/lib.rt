@@ -10,6 +10,7 @@ ghost use Rattle.calls.specs.Results as results;
 ghost use Rattle.calls.specs.Promises as promises;
 
 pub mod checks;
+pub mod spacing;
 
 // The drive record: the capacity C and the position p. Its type owns the limits and the calls.
 #[repr(C)]
@@ -262,7 +263,7 @@ impl Drive {
             Check::Clear => {
                 let c = self.capacity as usize;
                 let w = pieces::weigh(board, c, name);
-                let spacing = (c + (w - 1)) / w;
+                let spacing = spacing::spacing(board, c, name);
                 Reported {
                     drive: self,
                     answer: Report::Stream {

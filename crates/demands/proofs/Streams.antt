@@ -1,6 +1,6 @@
 -- How often a stream is served on a good board: in slots in a row of a round, and in a whole round.
 -- Assumes nothing.
-use mathlib.Core.Path.{_≡_, refl, ap, ap₂, _∙_}
+use mathlib.Core.Path.{_≡_, refl, ap, _∙_}
 use mathlib.Core.Bool.{Bool, true, false, _&&_, and-true, and-false}
 use mathlib.Core.List.{List, [], _∷_}
 use Prim.Native.Nat.{ℕ, zero, suc, _+_, _-_, _*_, _^_, _≤_, _<_}
@@ -8,15 +8,16 @@ use native.Mathlib.Nat.{two-pow-succ}
 use native.Mathlib.Omega.{arith}
 use native.Mathlib.Decide.{decLt, ℕ-discrete}
 use lib.Count.{ones}
-use lib.Dec.{eqb, ltb}
+use lib.Dec.{eqb}
 use lib.ListN.{getD}
 use lib.Pow.{pow-pos}
 use borrow.Author.Tests.{eq-eqb, ne-eqb, le-leb, lt-leb, lt-ltb, le-ltb}
 use Rattle.sequences.specs.Board.{digits}
 use Rattle.sequences.specs.Serving.{one, inRun, leavesFrom, afterSlots, countList}
-use Rattle.sequences.proofs.Laws.{first-position, after-slots-valid, round-once, combine}
+use Rattle.sequences.proofs.Laws.{first-position, after-slots-valid, combine}
 use Rattle.pieces.specs.Board.{good, weight, number}
 use Rattle.pieces.proofs.Laws.{over-pieces, pieces-ones}
+use Rattle.calls.proofs.Laws.{leaves-times}
 use Rattle.demands.proofs.Windows.{Window, round-window, leaves-within}
 
 -- leaf i holds x
@@ -79,17 +80,6 @@ run-all a l i b h =
       ]
     ]
 
--- a leaf below suc n is below n, or n
-next-leaf : (n i : ℕ) (f : ℕ → Bool) → one (ltb i (suc n) && f i) ≡ one (ltb i n && f i) + one (eqb i n && f n)
-next-leaf n i f =
-    elim (ℕ-discrete i n) [
-      | yes r ↦ rw (r, lt-ltb n (suc n) (omega arith), le-ltb n n (omega arith), eq-eqb n n refl) (omega arith)
-      | no r ↦ elim (decLt i n) [
-        | yes p ↦ rw (lt-ltb i (suc n) (omega arith), lt-ltb i n p, ne-eqb i n r) (omega arith)
-        | no p ↦ rw (le-ltb i (suc n) (omega arith), le-ltb i n (omega arith), ne-eqb i n r) refl
-      ]
-    ]
-
 -- ---- a name with leaves has a piece
 
 some-piece : (m w C : ℕ) → zero < w → w ≤ m * C → zero < m
@@ -149,24 +139,6 @@ module _ (C : ℕ) (B : List ℕ) (x : ℕ) (some : zero < C) (few : C < 4096) w
         let t = w .slots in
         rw (← pieces-ones C B x (omega arith) fine) (combine K C (w .over) (countList (holds B x) L) (weight C B x) m n (ones C) some (omega arith) (omega arith) (t .0) (t .1))
 
-  -- ---- a whole round
-
-  alike : (f g : ℕ → Bool) → ((y : ℕ) → y < C → f y ≡ g y) → countList f (leavesFrom C 1 C) ≡ countList g (leavesFrom C 1 C)
-  alike f g h = leaves-within C 1 C f g (first-position C some few) h
-
-  -- leaf n is served once
-  once : (n : ℕ) → n < C → (b : Bool) → countList (λ (y : ℕ). eqb y n && b) (leavesFrom C 1 C) ≡ one b
-  once n h true = alike (λ (y : ℕ). eqb y n && true) (λ (y : ℕ). eqb y n) (λ y q. and-true (eqb y n)) ∙ round-once C n few h
-  once n h false = alike (λ (y : ℕ). eqb y n && false) (λ (y : ℕ). false) (λ y q. and-false (eqb y n)) ∙ count-none (leavesFrom C 1 C)
-
-  -- of the leaves of a round those below n that hold x are as many as there are on the board
-  round-below : (n : ℕ) → n ≤ C → countList (λ (y : ℕ). ltb y n && holds B x y) (leavesFrom C 1 C) ≡ weight n B x
-  unfolding weight
-  round-below zero h = alike (λ (y : ℕ). ltb y 0 && holds B x y) (λ (y : ℕ). false) (λ y q. rw (le-ltb y 0 (omega arith)) refl) ∙ count-none (leavesFrom C 1 C)
-  round-below (suc n) h =
-      count-split (λ (y : ℕ). ltb y (suc n) && holds B x y) (λ (y : ℕ). ltb y n && holds B x y) (λ (y : ℕ). eqb y n && holds B x n) (leavesFrom C 1 C) (λ y. next-leaf n y (holds B x))
-      ∙ ap₂ (λ (a b : ℕ). a + b) (round-below n (omega arith)) (once n h (holds B x n))
-
   -- in a whole round a name is served as often as it has leaves
   pub stream-round : countList (holds B x) (leavesFrom C 1 C) ≡ weight C B x
-  stream-round = alike (holds B x) (λ (y : ℕ). ltb y C && holds B x y) (λ y q. rw (lt-ltb y C q) refl) ∙ round-below C (omega arith)
+  stream-round = leaves-times C B few x

@@ -4,7 +4,7 @@
 use mathlib.Core.Path.{_≡_, sym, ap, _∙_}
 use mathlib.Core.Bool.{true}
 use mathlib.Core.List.{List}
-use Prim.Native.Nat.{ℕ, suc, _+_, _*_, _%_, _^_, _≤_, _<_}
+use Prim.Native.Nat.{ℕ, suc, _+_, _*_, _/_, _%_, _^_, _≤_, _<_}
 use native.Mathlib.Omega.{arith}
 use lib.Count.{ones}
 use lib.ListN.{getD, length}
@@ -56,6 +56,13 @@ module _ (C : ℕ) (few : C ≤ 4095) (B : List ℕ) where
 -- A stream of weight w on a good board has as many pieces as w has ones.
 pub pieces-ones : (C : ℕ) (B : List ℕ) (x : ℕ) → C ≤ 4095 → good C B ≡ true → number C B x ≡ ones (weight C B x)
 pieces-ones C B x few sound = weights.good-number C B (good-elim C B sound) x ∙ ap ones (sym (weights.weight-total C B x (omega arith)))
+
+-- For each one of w, at the place l, it has a piece of 2 ^ l leaves.
+pub digit-piece : (C : ℕ) (B : List ℕ) (x l : ℕ) → C ≤ 4095 → good C B ≡ true → weight C B x / 2 ^ l % 2 ≡ 1 → (a : ℕ) × IsPiece C B x a l
+digit-piece C B x l few sound set =
+    let one : pieces C B x l 0 12 ≡ 1 =
+    weights.pieces-digit C B x 0 12 (good-elim C B sound x) l ∙ ap (λ (n : ℕ). n / 2 ^ l % 2) (sym (weights.weight-total C B x (omega arith))) ∙ set in
+    (nth C B x l 0 0 12, nth-is-piece C few B x l 0 (omega arith))
 
 -- Whether a board is good hangs on its leaves alone, and not on the entries beyond them.
 pub good-same : (C : ℕ) (B B′ : List ℕ) → ((i : ℕ) → i < C → getD B i 0 ≡ getD B′ i 0) → good C B ≡ true → good C B′ ≡ true

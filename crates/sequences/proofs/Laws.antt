@@ -2,23 +2,25 @@
 -- Throughout, C is the capacity, 1 to 4,095, k = digits C, and p a position; Position C p says that both are in range.
 -- Assumes nothing.
 use mathlib.Core.Path.{_≡_}
-use mathlib.Core.Bool.{true, false}
-use mathlib.Core.List.{[], _∷_, _++_}
+use mathlib.Core.Bool.{Bool, true, false}
+use mathlib.Core.List.{List, [], _∷_, _++_, map}
 use Prim.Native.Nat.{ℕ, zero, suc, _+_, _-_, _*_, _/_, _%_, _^_, _≤_, _<_}
 use lib.Count.{ones}
 use lib.Dec.{eqb}
-use lib.ListN.{length, getD}
+use lib.ListN.{length, getD, replicate}
 use Rattle.sequences.specs.Sequences.{wss, tss, rb}
 use Rattle.sequences.specs.Board.{digits, term, start, leafAt, passedFrom, servedFrom, nextFrom, Position}
-use Rattle.sequences.specs.Serving.{countIn, countList, serves, inRun, servesRun, left, leavesFrom, afterSlots, Walked}
+use Rattle.sequences.specs.Serving.{one, countIn, countList, serves, inRun, servesRun, left, leavesFrom, afterSlots, Walked}
 use Rattle.sequences.specs.Scanning.{roundLeaves}
 use Rattle.sequences.proofs.Places as places
 use Rattle.sequences.proofs.Lists as lists
 use Rattle.sequences.proofs.Stepping as stepping
 use Rattle.sequences.proofs.Successive as successive
+use Rattle.sequences.proofs.Counting as counting
 use Rattle.sequences.proofs.Rounds as rounds
 use Rattle.sequences.proofs.Walk as walks
 use Rattle.sequences.proofs.Scan as scans
+use Rattle.sequences.proofs.Halves as halves
 use Rattle.sequences.proofs.Fair as fair
 use Rattle.sequences.proofs.Powers as powers
 
@@ -110,9 +112,26 @@ after-append = successive.after-append
 pub round-once : (C x : ℕ) → C < 4096 → x < C → countList (λ (y : ℕ). eqb y x) (leavesFrom C 1 C) ≡ 1
 round-once = walks.round-once
 
+-- Of these slots as many serve a leaf that passes a test as there are such leaves.
+pub round-counts : (C : ℕ) → C < 4096 → (f : ℕ → Bool) → countList f (leavesFrom C 1 C) ≡ countIn f 0 C
+round-counts = halves.round-counts
+
+-- The round of 2 C + b, with b 0 or 1, is the round of C on the even leaves, the last leaf if b is 1, and the round of C on the odd leaves.
+pub round-halves : (C b : ℕ) → zero < C → b < 2 → 2 * C + b < 4096
+    → leavesFrom (2 * C + b) 1 (2 * C + b) ≡ map (λ i. 2 * i) (leavesFrom C 1 C) ++ (replicate b (2 * C) ++ map (λ i. 2 * i + 1) (leavesFrom C 1 C))
+round-halves = halves.round-halves
+
 -- They end at p = 1.
 pub round-ends : (C : ℕ) → zero < C → C < 4096 → afterSlots C 1 C ≡ 1
 round-ends = walks.round-ends
+
+-- One number more in a window of numbers that are counted.
+pub count-more : (f : ℕ → Bool) (P T : ℕ) → countIn f P (suc T) ≡ countIn f P T + one (f (P + T))
+count-more = counting.count-more
+
+-- What a mapped list has of a test.
+pub count-map : (f : ℕ → Bool) (g : ℕ → ℕ) (L : List ℕ) → countList f (map g L) ≡ countList (λ (x : ℕ). f (g x)) L
+count-map = halves.list-map
 
 -- From p = 1 there are C slots left in the round.
 pub left-first : (C : ℕ) → zero < C → C < 4096 → left C 1 ≡ C

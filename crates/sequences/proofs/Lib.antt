@@ -12,6 +12,7 @@ mod Runs
 mod Rounds
 mod Walk
 mod Scan
+mod Halves
 mod Powers
 mod Fair
 mod Examples

@@ -54,7 +54,7 @@ unfolding rb
 rb-of-zero zero = refl
 rb-of-zero (suc j) = rw (rb-of-zero j) (omega arith)
 
-rb-one : (i : ℕ) → rb i 1 ≡ i % 2
+pub rb-one : (i : ℕ) → rb i 1 ≡ i % 2
 unfolding rb
 rb-one i = omega arith
 

@@ -206,6 +206,25 @@ pub fn round(record: (u16, u16), board: &[u16], output: &mut [u16]) -> Answer {
     Answer::done(record, [0; 3])
 }
 
+/// The widest gap of one round, and the one from its last serve over its end to the first of the next.
+fn spacing(leaves: &[u16], name: u16) -> usize {
+    let c = leaves.len() as u16;
+    let (mut p, mut first, mut last, mut widest) = (1, NONE, 0, 0);
+    for slot in 0..leaves.len() {
+        let (leaf, _, next) = pick(c, p);
+        if leaves[usize::from(leaf)] == name {
+            if first == NONE {
+                first = slot;
+            } else {
+                widest = widest.max(slot - last);
+            }
+            last = slot;
+        }
+        p = next;
+    }
+    widest.max(first + leaves.len() - last)
+}
+
 pub fn report(record: (u16, u16), board: &[u16], name: u16) -> Answer {
     let mut number = check_slot(record, board);
     if number == 0 && !good(&board[..record.0.into()]) {
@@ -222,7 +241,7 @@ pub fn report(record: (u16, u16), board: &[u16], name: u16) -> Answer {
     if weight == 0 {
         return Answer::refused(record, 9);
     }
-    Answer::done(record, [weight as u16, weight.count_ones() as u16, leaves.len().div_ceil(weight) as u16])
+    Answer::done(record, [weight as u16, weight.count_ones() as u16, spacing(leaves, name) as u16])
 }
 
 pub fn save(record: (u16, u16), board: &[u16], output: &mut [u8]) -> Answer {

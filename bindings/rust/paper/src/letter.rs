@@ -259,6 +259,14 @@ pub fn round(record: (u16, u16), board: &[u16], output: &mut [u16]) -> Answer {
     Answer::done(record, [0; 3])
 }
 
+/// Document 02, No. 1: "the largest distance from one serve to the next over two rounds of the same board, end of round included".
+fn spacing(leaves: &[u16], name: u16) -> usize {
+    let round: Vec<u16> = round_leaves(leaves.len()).into_iter().map(|leaf| leaves[leaf]).collect();
+    let two = [round.as_slice(), &round].concat();
+    let serves: Vec<usize> = (0..two.len()).filter(|&slot| two[slot] == name).collect();
+    serves.windows(2).map(|pair| pair[1] - pair[0]).max().unwrap()
+}
+
 pub fn report(record: (u16, u16), board: &[u16], name: u16) -> Answer {
     let given = Asked {
         name,
@@ -270,7 +278,7 @@ pub fn report(record: (u16, u16), board: &[u16], name: u16) -> Answer {
     let leaves = &board[..record.0.into()];
     let weight = weight_of(leaves, name);
     let number = pieces(leaves).iter().filter(|piece| piece.name == name).count();
-    Answer::done(record, [weight as u16, number as u16, leaves.len().div_ceil(weight) as u16])
+    Answer::done(record, [weight as u16, number as u16, spacing(leaves, name) as u16])
 }
 
 /// The bytes of a sheet.

@@ -72,3 +72,25 @@ fn boards() {
     assert_eq!(letter::open(4096, &mut vec![0; 4096]).number, 1);
     assert_eq!(hand::open(4096, &mut vec![0; 4096]).number, 1);
 }
+
+/// Document 02, No. 1: spacing is the longest wait, over the end of the round too. Where C / w rounded up is another number, it stands beside.
+#[test]
+fn spacings() {
+    let boards: [(&[u16], u16, u16); 9] = [
+        (&[7, 7, 7, 0, 0, 0, 0, 0], 7, 4), // 3
+        (&[7, 7, 2, 7, 0], 7, 3),          // 2
+        (&[7, 7, 2, 7, 0], 2, 5),
+        (&[1, 6, 5, 5, 2, 8, 3, 4], 1, 8),
+        (&[1, 6, 5, 5, 2, 8, 3, 4], 4, 8),
+        (&[1, 6, 5, 5, 2, 8, 3, 4], 5, 4),
+        (&[9, 9, 0, 0, 9, 0], 9, 3), // 2
+        (&[5], 5, 1),
+        (&[4, 4, 4, 4, 4, 4, 4], 4, 1),
+    ];
+    for (board, name, spacing) in boards {
+        for report in [letter::report, hand::report] {
+            let answer = report((board.len() as u16, 1), board, name);
+            assert_eq!((answer.number, answer.values[2]), (0, spacing), "name {name} on {board:?}");
+        }
+    }
+}

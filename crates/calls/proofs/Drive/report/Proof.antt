@@ -3,12 +3,13 @@
 use borrow.Author.Needs.{needs}
 use mathlib.Core.Path.{_≡_, sym, _∙_}
 use native.Mathlib.Omega.{arith}
-use Prim.Native.Nat.{_+_, _-_, _≤_, _<_}
-use native.Mathlib.Nat.{div-le-self}
+use Prim.Native.Nat.{_≤_, _<_}
 use lib.Count.{ones-le}
+use Rattle.sequences.proofs.Laws.{first-position}
 use Rattle.calls.specs.Refusals.{reportCheck}
 use Rattle.calls.specs.declared.Check.the-variants.{Clear}
 use Rattle.calls.proofs.Checking.{slot-sized, report-slot, report-good, report-held, count-small}
+use Rattle.calls.proofs.Spaced as spaced
 use Rattle.pieces.proofs.Laws.{pieces-ones}
 use Rattle.calls.proofs.Drive.report.Statement.{statement}
 use Rattle.calls.proofs.Drive.report.Tie as tie
@@ -42,26 +43,27 @@ cast-c c = search needs
 weigh-requires : tie.Need-weigh-requires
 weigh-requires c κs = let s = slot-sized _ _ (report-slot _ _ _ (clear (c .before))) in (s .long, s .few)
 
-sub-spacing : tie.Need-sub-spacing
-sub-spacing c = let w = counted c in omega arith
+spacing-requires : tie.Need-spacing-requires
+spacing-requires c κs =
+    let e = clear (c .before .before) in
+    let z = slot-sized _ _ (report-slot _ _ _ e) in
+    let h = report-held _ _ _ e in
+    (first-position _ (z .some) (omega (arith, z .few)), z .long, omega arith)
 
-add-spacing : tie.Need-add-spacing
-add-spacing c = let w = counted c in omega arith
-
-div-spacing : tie.Need-div-spacing
-div-spacing c = let w = counted c in omega arith
+cast-t11 : tie.Need-cast-t11
+cast-t11 c = let w = counted (c .before) in omega arith
 
 cast-t13 : tie.Need-cast-t13
-cast-t13 c = let w = counted c in omega arith
+cast-t13 c = let w = counted (c .before) in let l = ones-le 12 (c .before .weigh .result) (omega arith) in omega arith
 
-cast-t15 : tie.Need-cast-t15
-cast-t15 c = let w = counted c in let l = ones-le 12 (c .weigh .result) (omega arith) in omega arith
-
-cast-t16 : tie.Need-cast-t16
-cast-t16 c =
-    let w = counted c in
-    let C = c .before .before .before .before .before .before .args .self .capacity in
-    let l = div-le-self (C + (c .weigh .result - 1)) (c .weigh .result) in
+cast-t14 : tie.Need-cast-t14
+cast-t14 c =
+    let a = c .before .before .before .before .before .before .before .args in
+    let e = clear (c .before .before .before) in
+    let z = slot-sized _ _ (report-slot _ _ _ e) in
+    let h = report-held _ _ _ e in
+    let w = counted (c .before) in
+    let l : c .spacing .result ≤ a .self .capacity = rw (c .spacing .ensures) (spaced.most (a .self .capacity) (a .board .now) (omega (arith, z .few)) (a .name) (omega arith)) in
     omega arith
 
 returns : tie.Need-returns
@@ -71,10 +73,10 @@ returns c =
 
 returns-2 : tie.Need-returns-2
 returns-2 c =
-    let e = clear (c .before .before) in
+    let e = clear (c .before .before .before) in
     let z = slot-sized _ _ (report-slot _ _ _ e) in
-    let n = pieces-ones _ _ (c .before .before .before .before .before .before .args .name) (z .few) (report-good _ _ _ e) in
-    (simp (e, c .weigh .ensures, n), simp (e, c .weigh .ensures, n))
+    let n = pieces-ones _ _ (c .before .before .before .before .before .before .before .args .name) (z .few) (report-good _ _ _ e) in
+    (simp (e, c .before .weigh .ensures, c .spacing .ensures, n), simp (e, c .before .weigh .ensures, c .spacing .ensures, n))
 
 pub report-spec : {M : Type 1} → statement M
 report-spec =
@@ -85,11 +87,9 @@ report-spec =
     enum-told
     cast-c
     weigh-requires
-    sub-spacing
-    add-spacing
-    div-spacing
+    spacing-requires
+    cast-t11
     cast-t13
-    cast-t15
-    cast-t16
+    cast-t14
     returns
     returns-2)
