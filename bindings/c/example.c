@@ -30,9 +30,9 @@ int main(void)
     if (r.number != MANDROZSI_DONE || r.first != 3)
         return wrong("add 7", r);
     r = mandrozsi_add(drive, board, 8, 2, 4);
-    if (r.number != MANDROZSI_ROOM || r.first != 0)
+    if (r.number != MANDROZSI_ROOM || r.first != 3)
         return wrong("add 2 with too large a weight", r);
-    r = mandrozsi_add(drive, board, 8, 2, 3);
+    r = mandrozsi_add(drive, board, 8, 2, r.first);
     if (r.number != MANDROZSI_DONE || r.first != 0)
         return wrong("add 2", r);
 

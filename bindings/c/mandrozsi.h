@@ -4,8 +4,8 @@
  * stream's name. No function keeps a pointer, allocates, or has state of its own. A pointer goes with the number of elements behind it and
  * is never null, not even where that number is 0; two slices of one call do not overlap.
  *
- * Every function accepts every input and answers with a reply. A refusal gives its number, zeros for values and the record it was given
- * (open and read: a record of zeros), and changes no lent entry. */
+ * Every function accepts every input and answers with a reply. A refusal gives its number, zeros for values (but for ROOM the idle leaves)
+ * and the record it was given (open and read: a record of zeros), and changes no lent entry. */
 #ifndef MANDROZSI_H
 #define MANDROZSI_H
 
@@ -48,7 +48,7 @@ enum mandrozsi_number {
     MANDROZSI_WEIGHT = 7,    /* the weight is 0 */
     MANDROZSI_TAKEN = 8,     /* a leaf holds the name */
     MANDROZSI_ABSENT = 9,    /* no leaf holds the name */
-    MANDROZSI_ROOM = 10,     /* the weight exceeds the number of idle leaves */
+    MANDROZSI_ROOM = 10,     /* the weight exceeds the number of idle leaves: first = that number */
     MANDROZSI_OUTPUT = 11,   /* the lent output is too short */
     MANDROZSI_BLOCK = 12     /* a sheet breaks its layout */
 };
@@ -58,7 +58,7 @@ enum mandrozsi_number {
 mandrozsi_reply mandrozsi_open(uint16_t capacity, uint16_t *board, size_t entries);
 
 /* Admits a stream: its weight in leaves, each power of two at the low end of the smallest idle piece. Done: first = the idle leaves left.
- * Refused: 1 to 8, 10. */
+ * Refused: 1 to 8; 10, first = the idle leaves there are. */
 mandrozsi_reply mandrozsi_add(mandrozsi_drive drive, uint16_t *board, size_t entries, uint16_t name, uint16_t weight);
 
 /* Makes a stream's leaves idle and tidies the board. Done: first = the idle leaves left.

@@ -10,7 +10,7 @@
 //! let mut board = [0u16; 8];
 //! let mut drive = Drive::open(8, &mut board)?;
 //! assert_eq!(drive.add(&mut board, 7, 5)?, 3); // stream 7 has 5 of 8 slots, 3 are idle
-//! assert_eq!(drive.add(&mut board, 2, 4), Err(Refusal::Room));
+//! assert_eq!(drive.add(&mut board, 2, 4), Err(Refusal::Room { idle: 3 }));
 //! assert_eq!(drive.slot(&board)?.name, 7); // the record has moved on
 //! assert_eq!(drive.remove(&mut board, 7), Err(Refusal::Midround));
 //! # Ok::<(), Refusal>(())
@@ -29,38 +29,37 @@ pub struct Drive {
     pub position: u16,
 }
 
-/// Why a call is refused, with the number that document 01 and the C header give it.
-#[repr(u16)]
+/// Why a call is refused. `number` is what document 01 and the C header call it.
 #[derive(Clone, Copy, Debug, PartialEq, Eq, Hash, PartialOrd, Ord)]
 pub enum Refusal {
     /// C is 0 or above 4,095.
-    Capacity = 1,
+    Capacity,
     /// The board has fewer than C entries.
-    Short = 2,
+    Short,
     /// p is 0 or above 2^k - 1.
-    Position = 3,
+    Position,
     /// p is not 1: a board is changed and saved only at the start of a round.
-    Midround = 4,
+    Midround,
     /// The board is not good: two pieces of one name, or two idle ones, have equal size.
-    Damaged = 5,
+    Damaged,
     /// The name is 0.
-    Name = 6,
+    Name,
     /// The weight is 0.
-    Weight = 7,
+    Weight,
     /// A leaf holds the name.
-    Taken = 8,
+    Taken,
     /// No leaf holds the name.
-    Absent = 9,
-    /// The weight exceeds the number of idle leaves.
-    Room = 10,
+    Absent,
+    /// The weight exceeds the number of idle leaves, which is what could be asked for.
+    Room { idle: u16 },
     /// The lent output is too short.
-    Output = 11,
+    Output,
     /// A sheet breaks its layout.
-    Block = 12,
+    Block,
 }
 
 impl Refusal {
-    /// Every refusal, in the order of the numbers.
+    /// Every refusal, in the order of the numbers; `Room` on a full board.
     pub const ALL: [Refusal; 12] = [
         Refusal::Capacity,
         Refusal::Short,
@@ -71,39 +70,63 @@ impl Refusal {
         Refusal::Weight,
         Refusal::Taken,
         Refusal::Absent,
-        Refusal::Room,
+        Refusal::Room { idle: 0 },
         Refusal::Output,
         Refusal::Block,
     ];
 
     /// The number, 1 to 12.
     pub const fn number(self) -> u16 {
-        self as u16
+        match self {
+            Refusal::Capacity => 1,
+            Refusal::Short => 2,
+            Refusal::Position => 3,
+            Refusal::Midround => 4,
+            Refusal::Damaged => 5,
+            Refusal::Name => 6,
+            Refusal::Weight => 7,
+            Refusal::Taken => 8,
+            Refusal::Absent => 9,
+            Refusal::Room { .. } => 10,
+            Refusal::Output => 11,
+            Refusal::Block => 12,
+        }
     }
 
-    /// The refusal of a number, if it has one.
-    pub fn from_number(number: u16) -> Option<Refusal> {
-        Refusal::ALL.get(usize::from(number).checked_sub(1)?).copied()
+    /// The value that goes with the number: the idle leaves for `Room`, and 0 for every other.
+    pub const fn value(self) -> u16 {
+        match self {
+            Refusal::Room { idle } => idle,
+            _ => 0,
+        }
+    }
+
+    /// The refusal of a number and the value that goes with it, if the number is one's.
+    pub fn from_number(number: u16, value: u16) -> Option<Refusal> {
+        match Refusal::ALL.get(usize::from(number).checked_sub(1)?)? {
+            Refusal::Room { .. } => Some(Refusal::Room { idle: value }),
+            other => Some(*other),
+        }
     }
 }
 
 impl fmt::Display for Refusal {
     fn fmt(&self, f: &mut fmt::Formatter<'_>) -> fmt::Result {
-        let text = match self {
-            Refusal::Capacity => "the capacity is 0 or above 4,095",
-            Refusal::Short => "the board has fewer entries than the capacity",
-            Refusal::Position => "the position is out of range",
-            Refusal::Midround => "not at the start of a round",
-            Refusal::Damaged => "the board is not good",
-            Refusal::Name => "the name is 0",
-            Refusal::Weight => "the weight is 0",
-            Refusal::Taken => "a leaf holds the name",
-            Refusal::Absent => "no leaf holds the name",
-            Refusal::Room => "the weight exceeds the idle leaves",
-            Refusal::Output => "the output is too short",
-            Refusal::Block => "the sheet breaks its layout",
-        };
-        write!(f, "{text} ({})", self.number())
+        match self {
+            Refusal::Capacity => write!(f, "the capacity is 0 or above 4,095"),
+            Refusal::Short => write!(f, "the board has fewer entries than the capacity"),
+            Refusal::Position => write!(f, "the position is out of range"),
+            Refusal::Midround => write!(f, "not at the start of a round"),
+            Refusal::Damaged => write!(f, "the board is not good"),
+            Refusal::Name => write!(f, "the name is 0"),
+            Refusal::Weight => write!(f, "the weight is 0"),
+            Refusal::Taken => write!(f, "a leaf holds the name"),
+            Refusal::Absent => write!(f, "no leaf holds the name"),
+            Refusal::Room { idle } => write!(f, "the weight exceeds the idle leaves, which are {idle}"),
+            Refusal::Output => write!(f, "the output is too short"),
+            Refusal::Block => write!(f, "the sheet breaks its layout"),
+        }?;
+        write!(f, " ({})", self.number())
     }
 }
 
@@ -131,7 +154,7 @@ impl Reply {
     pub fn done(self) -> Result<Reply, Refusal> {
         match self.number {
             0 => Ok(self),
-            number => Err(Refusal::from_number(number).expect("the library's numbers are 0 to 12")),
+            number => Err(Refusal::from_number(number, self.first).expect("the library's numbers are 0 to 12")),
         }
     }
 }
@@ -151,7 +174,7 @@ impl Drive {
         Ok(reply.done()?.drive)
     }
 
-    /// Admits a stream: the idle leaves left. Refused: 1 to 8, 10.
+    /// Admits a stream: the idle leaves left. Refused: 1 to 8, 10 with the idle leaves there are.
     pub fn add(self, board: &mut [u16], name: u16, weight: u16) -> Result<u16, Refusal> {
         let reply = unsafe { raw::mandrozsi_add(self, board.as_mut_ptr(), board.len(), name, weight) };
         Ok(reply.done()?.first)

@@ -16,7 +16,11 @@ fn told<T>(before: (u16, u16), result: Result<T, Refusal>, done: impl FnOnce(T) 
             let (record, values) = done(value);
             Answer::done(record, values)
         }
-        Err(why) => Answer::refused(before, why.number()),
+        Err(why) => Answer {
+            record: before,
+            number: why.number(),
+            values: [why.value(), 0, 0],
+        },
     }
 }
 

@@ -65,11 +65,15 @@ fn numbers() {
     assert_eq!(lines[0], ("MANDROZSI_DONE", "0"));
     assert_eq!(lines.len(), 13);
     for (refusal, (name, number)) in Refusal::ALL.iter().zip(&lines[1..]) {
-        assert_eq!(*name, format!("MANDROZSI_{}", format!("{refusal:?}").to_uppercase()));
+        let word = format!("{refusal:?}").split(' ').next().unwrap().to_uppercase();
+        assert_eq!(*name, format!("MANDROZSI_{word}"));
         assert_eq!(number.parse(), Ok(refusal.number()));
-        assert_eq!(Refusal::from_number(refusal.number()), Some(*refusal));
+        assert_eq!(Refusal::from_number(refusal.number(), 0), Some(*refusal));
     }
-    assert_eq!((Refusal::from_number(0), Refusal::from_number(13)), (None, None));
+    assert_eq!((Refusal::from_number(0, 0), Refusal::from_number(13, 0)), (None, None));
+    let room = Refusal::from_number(10, 3).unwrap();
+    assert_eq!((room, room.value()), (Refusal::Room { idle: 3 }, 3));
+    assert_eq!(Refusal::from_number(11, 3).unwrap().value(), 0);
 }
 
 #[test]

@@ -134,6 +134,9 @@ wider n ms (m ∷ ns) c e =
 pub part-within : (ms ns : List ℕ) (k : Check) → covers ms ns ≡ true → Within ns k → Within ms k
 part-within ms ns k c e = wider (numberBy k) ms ns c e
 
--- a refusal whose number the list has not is not found
+-- a number that the list has not is not answered, and its refusal is not found
+pub other-number : (ns : List ℕ) (n m : ℕ) → zeroOr n ns ≡ true → zeroOr m ns ≡ false → eqb n m ≡ false
+other-number ns n m e f = by-bool (eqb n m) (λ t. clash (rw (eqb-true n m t) at e) f) (λ t. t)
+
 pub never-within : (ns : List ℕ) (k : Check) (r : Refusal) → Within ns k → zeroOr (numberOf r) ns ≡ false → k ≡ Refused r → ⊥
 never-within ns k r e n q = clash (rw q at e) n

@@ -12,14 +12,14 @@ use borrow.Author.Tests.{eqb-true, eqb-false, ne-eqb, ltb-false, le-ltb, not-fal
 use Rattle.sequences.specs.Board as sequences
 use Rattle.sequences.proofs.Laws.{digits-small, shift-exact}
 use Rattle.pieces.specs.Board.{bit, good, weight}
-use Rattle.pieces.specs.Placing.{Placeable}
+use Rattle.pieces.specs.Placing.{Placeable, Admissible}
 use Rattle.pieces.specs.Tidying.{Removable}
 use Rattle.calls.specs.declared.Drive.{Drive}
 use Rattle.calls.specs.declared.Refusal.{Refusal}
 use Rattle.calls.specs.declared.Refusal.the-variants.{Position, Midround, Damaged, Name, Weight, Taken, Absent, Room, Output}
 use Rattle.calls.specs.declared.Check.{Check}
 use Rattle.calls.specs.declared.Check.the-variants.{Clear, Refused}
-use Rattle.calls.specs.Refusals.{Asked, applies, refuseIf, firstOf, asked, openCheck, addCheck, removeCheck, slotCheck, changeCheck, roundCheck, reportCheck, positionCheck, goodCheck, heldCheck, newCheck, askedOpen, askedAdd, askedName, askedOutput, openMay, addMay, removeMay, slotMay, changeMay, roundMay, reportMay, andThen}
+use Rattle.calls.specs.Refusals.{Asked, applies, refuseIf, firstOf, asked, openCheck, addCheck, admitCheck, removeCheck, slotCheck, changeCheck, roundCheck, reportCheck, positionCheck, goodCheck, heldCheck, newCheck, askedOpen, askedAdd, askedName, askedOutput, openMay, addMay, admitMay, removeMay, slotMay, changeMay, roundMay, reportMay, andThen}
 
 -- 1 shifted by the digits of a capacity
 pub record Order (C : ℕ) : Type 0 where
@@ -64,9 +64,13 @@ module _ (d : Drive) (B : List ℕ) where
   unfolding changeCheck slotCheck goodCheck
   change-parts = first-next slotMay (Midround ∷ Damaged ∷ []) (asked d B)
 
-  pub add-parts : (x w : ℕ) → addCheck d B x w ≡ andThen (changeCheck d B) (newCheck (d .capacity) B x w)
-  unfolding addCheck changeCheck newCheck
-  add-parts x w = first-next changeMay (Name ∷ Weight ∷ Taken ∷ Room ∷ []) (askedAdd d B x w)
+  pub admit-parts : (x w : ℕ) → admitCheck d B x w ≡ andThen (changeCheck d B) (newCheck (d .capacity) B x w)
+  unfolding admitCheck changeCheck newCheck
+  admit-parts x w = first-next changeMay (Name ∷ Weight ∷ Taken ∷ []) (askedAdd d B x w)
+
+  pub add-parts : (x w : ℕ) → addCheck d B x w ≡ andThen (admitCheck d B x w) (refuseIf (ltb (weight (d .capacity) B 0) w) Room Clear)
+  unfolding addCheck admitCheck
+  add-parts x w = first-next admitMay (Room ∷ []) (askedAdd d B x w)
 
   pub remove-parts : (x : ℕ) → removeCheck d B x ≡ andThen (changeCheck d B) (heldCheck (d .capacity) B x)
   unfolding removeCheck changeCheck heldCheck
@@ -161,24 +165,37 @@ module _ (d : Drive) (B : List ℕ) where
   unfolding changeCheck Passed
   change-good e = not-false (good (d .capacity) B) (passed changeMay (asked d B) e .1 .1 .1 .1 .0)
 
+  pub admit-change : (x w : ℕ) → admitCheck d B x w ≡ Clear → changeCheck d B ≡ Clear
+  admit-change x w e = first-clear _ _ (sym (admit-parts d B x w) ∙ e)
+
+  -- what the search for room asks
+  pub admit-clear : (x w : ℕ) → admitCheck d B x w ≡ Clear → Admissible (d .capacity) B x
+  unfolding admitCheck Passed
+  admit-clear x w e =
+      let c = admit-change x w e in
+      let s = slot-sized (change-slot c) in
+      let f = passed admitMay (askedAdd d B x w) e .1 .1 .1 .1 .1 in
+      let t = ltb-false 0 (weight (d .capacity) B x) (f .1 .1 .0) in
+      record { small = s .few; long = s .long; sound = change-good c; named = eqb-false x 0 (f .0); absent = omega arith }
+
+  pub add-admit : (x w : ℕ) → addCheck d B x w ≡ Clear → admitCheck d B x w ≡ Clear
+  add-admit x w e = first-clear _ _ (sym (add-parts d B x w) ∙ e)
+
   pub add-change : (x w : ℕ) → addCheck d B x w ≡ Clear → changeCheck d B ≡ Clear
-  add-change x w e = first-clear _ _ (sym (add-parts d B x w) ∙ e)
+  add-change x w e = admit-change x w (add-admit x w e)
 
   -- what placing asks
   pub add-clear : (x w : ℕ) → addCheck d B x w ≡ Clear → Placeable (d .capacity) B x w
-  unfolding addCheck Passed
   add-clear x w e =
-      let c = add-change x w e in
-      let s = slot-sized (change-slot c) in
-      let f = passed addMay (askedAdd d B x w) e .1 .1 .1 .1 .1 in
-      let t = ltb-false 0 (weight (d .capacity) B x) (f .1 .1 .0) in
+      let a = admit-clear x w (add-admit x w e) in
+      let f = clear-refuse (ltb (weight (d .capacity) B 0) w) Room Clear (then-clear (admitCheck d B x w) _ (sym (add-parts d B x w) ∙ e)) in
       record {
-        small = s .few;
-        long = s .long;
-        sound = change-good c;
-        named = eqb-false x 0 (f .0);
-        absent = omega arith;
-        room = ltb-false (weight (d .capacity) B 0) w (f .1 .1 .1 .0);
+        small = a .small;
+        long = a .long;
+        sound = a .sound;
+        named = a .named;
+        absent = a .absent;
+        room = ltb-false (weight (d .capacity) B 0) w (f .0);
       }
 
   pub add-weight : (x w : ℕ) → addCheck d B x w ≡ Clear → zero < w

@@ -1,7 +1,7 @@
 -- The laws of the calls that document 01 asks for and upper crates cite: no second answer, record or slice fits a promise; a refusal leaves everything as it
 -- was; a call answers only what it may; a round tells the whole board; what the spacing of a stream is.
 -- Assumes nothing.
-use mathlib.Core.Path.{_≡_, refl}
+use mathlib.Core.Path.{_≡_, refl, sym, ap, subst, _∙_}
 use mathlib.Core.Bool.{Bool, true, _&&_}
 use mathlib.Core.List.{List, [], _∷_, map}
 use Prim.Native.Nat.{ℕ, zero, suc, _/_, _%_, _^_, _≤_, _<_}
@@ -19,25 +19,29 @@ use Rattle.pieces.specs.Tidying as tidying
 use Rattle.pieces.proofs.Laws.{placed-weight, removed-name}
 use Rattle.calls.specs.declared.Drive.{Drive}
 use Rattle.calls.specs.declared.Refusal.{Refusal}
+use Rattle.calls.specs.declared.Refusal.the-variants.{Room}
+use Rattle.calls.specs.declared.Check.{Check}
 use Rattle.calls.specs.declared.Check.the-variants.{Clear, Refused}
+use Rattle.calls.specs.declared.Change.the-variants as change
 use Rattle.calls.specs.declared.Opened.{Opened}
 use Rattle.calls.specs.declared.Changed.{Changed}
 use Rattle.calls.specs.declared.Served.{Served}
 use Rattle.calls.specs.declared.Rounded.{Rounded}
 use Rattle.calls.specs.declared.Reported.{Reported}
 use Rattle.calls.specs.Records.{driveAt}
-use Rattle.calls.specs.Refusals.{Asked, numberOf, applies, firstOf, among, openMay, addMay, removeMay, slotMay, roundMay, reportMay, askedOpen, askedAdd, askedName, asked, askedOutput, openCheck, addCheck, removeCheck, slotCheck, roundCheck, reportCheck}
-use Rattle.calls.specs.Answers.{openingAnswer, changeAnswer, servingAnswer, roundingAnswer, reportAnswer}
-use Rattle.calls.specs.Results.{openedAnswer, addedAnswer, addedBoard, removedAnswer, removedBoard, servedAnswer, slotNames, roundNames, roundedAnswer, reportedSpacing, reportedAnswer}
+use Rattle.calls.specs.Refusals.{Asked, numberOf, applies, firstOf, zeroOr, numbers, among, openMay, addMay, removeMay, slotMay, roundMay, reportMay, askedOpen, askedAdd, askedName, asked, askedOutput, openCheck, addCheck, removeCheck, slotCheck, roundCheck, reportCheck}
+use Rattle.calls.specs.Answers.{Answer, beside, openingAnswer, changeAnswer, servingAnswer, roundingAnswer, reportAnswer}
+use Rattle.calls.specs.Results.{changeBy, admittedBy, openedAnswer, addedIdle, addedAnswer, addedBoard, removedIdle, removedAnswer, removedBoard, servedAnswer, slotNames, roundNames, roundedAnswer, reportedSpacing, reportedAnswer}
 use Rattle.calls.proofs.Checking.{by-bool, add-clear, add-weight, remove-clear, remove-held}
-use Rattle.calls.proofs.Calling.{unique, Refuses, refuses, refusal, may, first-among, and-both}
+use Rattle.calls.proofs.Calling.{unique, Refuses, refuses, refusal, may, first-within, first-among, never-within, and-both}
 use Rattle.calls.specs.Spacing.{roundedUp}
 use Rattle.calls.proofs.Spaced as spaced
 use Rattle.calls.specs.Promises.{Opens, Adds, Removes, Serves, Rounds, Reports}
 -- ---- what is known once the checks of a call are clear
 
 unfoldable pub use Rattle.calls.proofs.Checking.{Passed}
-pub use Rattle.calls.proofs.Checking.{Sized, passed, first-next, first-clear, then-clear, open-clear, open-sized, slot-sized, slot-parts, change-parts, slot-position, change-slot, change-start, change-good, add-change, add-weight, add-clear, remove-change, remove-held, remove-clear, round-slot, round-room, report-slot, report-good, report-held}
+pub use Rattle.calls.proofs.Checking.{Sized, passed, first-next, first-clear, then-clear, open-clear, open-sized, slot-sized, slot-parts, change-parts, slot-position, change-slot, change-start, change-good, admit-change, admit-clear, add-parts, add-change, add-weight, add-clear, remove-change, remove-held, remove-clear, round-slot, round-room, report-slot, report-good, report-held}
+pub use Rattle.calls.proofs.Admitting.{add-full}
 -- ---- spacing: the longest wait from one serve to the next (document 02, request No. 1)
 
 -- Over the names of any round: it is the largest distance around the circle of the round; the round is no more than as many times the spacing as the name is
@@ -48,7 +52,7 @@ pub use Rattle.calls.proofs.Spaced.{leaves-times, names-times, two-roun
 -- ---- what holds of every call
 
 unfoldable pub use Rattle.calls.proofs.Calling.{covers}
-pub use Rattle.calls.proofs.Calling.{unique, number-some, number-tells, clear-number, Refuses, refuses, refusal, Within, within-among, may, first-within, first-among, then-within, if-within, part-within, never-within}
+pub use Rattle.calls.proofs.Calling.{unique, number-some, number-tells, clear-number, Refuses, refuses, refusal, Within, within-among, may, first-within, first-among, then-within, if-within, part-within, other-number, never-within}
 
 -- ---- "the lowest number that applies is answered"
 
@@ -88,6 +92,18 @@ first-lowest n (s ∷ rs) a r o e =
     let g = first-lowest (numberOf s) rs a r (f .1) (rw t at e) in
     (g .0, ((λ u. let z : _≡_ {A = ℕ} 0 1 = cc in absurd (omega arith)), g .1)))
 
+-- ---- ROOM is told with the idle leaves
+
+admitted-tells : (k : Check) (left idle : ℕ) → admittedBy k left idle ≡ change.Refused Room → ⊥
+admitted-tells Clear left idle e = let z : _≡_ {A = ℕ} 0 1 = cc in omega arith
+admitted-tells (Refused r) left idle e = by-bool (eqb (numberOf r) 10)
+    (λ t. let f = rw t at e in let z : _≡_ {A = ℕ} 0 1 = cc in omega arith)
+    (λ t. let f = rw t at e in let g : r ≡ Room = cc in let h = rw g at t in let z : _≡_ {A = ℕ} 0 1 = cc in omega arith)
+
+changed-tells : (k : Check) (idle : ℕ) → (k ≡ Refused Room → ⊥) → changeBy k idle ≡ change.Refused Room → ⊥
+changed-tells Clear idle n e = let z : _≡_ {A = ℕ} 0 1 = cc in omega arith
+changed-tells (Refused r) idle n e = let g : r ≡ Room = cc in n (rw g refl)
+
 -- ---- open
 
 module _ (C : ℕ) (B : List ℕ) where
@@ -110,9 +126,19 @@ module _ (d : Drive) (B : List ℕ) (x w : ℕ) where
   pub add-unique : {r s : Changed} {E F : List ℕ} → Adds d B x w r E → Adds d B x w s F → (r ≡ s) × (E ≡ F)
   add-unique p q = (unique (p .0) (q .0), unique (p .2) (q .2))
 
+  -- the values are zero, but for ROOM the idle leaves
   pub add-refused : {r : Changed} {E : List ℕ} → Adds d B x w r E → Refuses (changeAnswer (r .answer))
-      → (r .drive ≡ d) × (changeAnswer (r .answer) .values ≡ 0 ∷ []) × (E ≡ B)
-  add-refused p h = rw (p .0, p .2, refusal (addCheck d B x w) (refuses (p .1) h) .1) (refl, refl, refl)
+      → (r .drive ≡ d) × (changeAnswer (r .answer) .values ≡ beside (changeAnswer (r .answer) .number) (weight (d .capacity) B 0) ∷ []) × (E ≡ B)
+  add-refused p h =
+      let f = refusal (addCheck d B x w) (refuses (p .1) h) .1 in (
+        ap (λ (r : Changed). r .drive) (p .0),
+        subst (λ (a : Answer). a .values ≡ beside (a .number) (weight (d .capacity) B 0) ∷ []) (sym (p .1)) (rw f refl),
+        p .2 ∙ rw f refl,
+      )
+
+  -- ROOM is never told without them
+  pub add-tells : {r : Changed} {E : List ℕ} → Adds d B x w r E → r .answer ≡ change.Refused Room → ⊥
+  add-tells p e = admitted-tells (addCheck d B x w) (addedIdle d B x w) (weight (d .capacity) B 0) (ap (λ (r : Changed). r .answer) (sym (p .0)) ∙ e)
 
   pub add-answers : among (addedAnswer d B x w .number) addMay ≡ true
   unfolding addCheck
@@ -130,6 +156,13 @@ module _ (d : Drive) (B : List ℕ) (x : ℕ) where
   pub remove-refused : {r : Changed} {E : List ℕ} → Removes d B x r E → Refuses (changeAnswer (r .answer))
       → (r .drive ≡ d) × (changeAnswer (r .answer) .values ≡ 0 ∷ []) × (E ≡ B)
   remove-refused p h = rw (p .0, p .2, refusal (removeCheck d B x) (refuses (p .1) h) .1) (refl, refl, refl)
+
+  pub remove-tells : {r : Changed} {E : List ℕ} → Removes d B x r E → r .answer ≡ change.Refused Room → ⊥
+  unfolding removeCheck zeroOr
+  remove-tells p e =
+      changed-tells (removeCheck d B x) (removedIdle d B x)
+      (never-within (numbers removeMay) (removeCheck d B x) Room (first-within removeMay (askedName d B x)) refl)
+      (ap (λ (r : Changed). r .answer) (sym (p .0)) ∙ e)
 
   pub remove-answers : among (removedAnswer d B x .number) removeMay ≡ true
   unfolding removeCheck

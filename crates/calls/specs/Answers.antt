@@ -1,9 +1,13 @@
--- Document 01's number and values for every case of every answer: 0 and the values of a call that is done, the number and zeros of a refused one.
+-- Document 01's number and values for every case of every answer: 0 and the values of a call that is done, the number and zeros of a refused one, but for
+-- ROOM the idle leaves (document 02, No. 5).
 -- Assumes nothing.
+use mathlib.Core.Bool.{cond}
 use mathlib.Core.List.{List, [], _∷_, map}
 use Prim.Native.Nat.{ℕ}
+use lib.Dec.{eqb}
 use Rattle.calls.specs.Refusals.{numberOf}
 use Rattle.calls.specs.declared.Refusal.{Refusal}
+use Rattle.calls.specs.declared.Refusal.the-variants.{Room}
 use Rattle.calls.specs.declared.Check.{Check}
 use Rattle.calls.specs.declared.Check.the-variants.{Clear, Refused}
 use Rattle.calls.specs.declared.Opening.{Opening}
@@ -39,6 +43,10 @@ answeredWith k vs beside = record { number = numberBy k; values = valuesBy k vs 
 abbrev pub answered : Check → List ℕ → Answer
 answered k vs = answeredWith k vs (λ r. map (λ v. 0) vs)
 
+-- What a refusal with the number n returns beside it, of a call that may answer ROOM: the idle leaves there are for 10, and zero for every other.
+abbrev pub beside : ℕ → ℕ → ℕ
+beside n idle = cond (eqb n 10) idle 0
+
 -- Open and round have no values.
 abbrev pub openingAnswer : Opening → Answer
 openingAnswer opening.Done = record { number = 0; values = [] }
@@ -48,9 +56,10 @@ abbrev pub roundingAnswer : Rounding → Answer
 roundingAnswer rounding.Done = record { number = 0; values = [] }
 roundingAnswer (rounding.Refused r) = record { number = numberOf r; values = [] }
 
--- Add and remove: the idle leaves left.
+-- Add and remove: the idle leaves left; ROOM, the idle leaves there are.
 abbrev pub changeAnswer : Change → Answer
 changeAnswer (change.Done idle) = record { number = 0; values = idle ∷ [] }
+changeAnswer (change.Room idle) = record { number = numberOf Room; values = beside (numberOf Room) idle ∷ [] }
 changeAnswer (change.Refused r) = record { number = numberOf r; values = 0 ∷ [] }
 
 -- Slot: the name, the leaf, the terms passed over.

@@ -93,6 +93,10 @@ openMay = Capacity ∷ Short ∷ []
 abbrev pub addMay : List Refusal
 addMay = Capacity ∷ Short ∷ Position ∷ Midround ∷ Damaged ∷ Name ∷ Weight ∷ Taken ∷ Room ∷ []
 
+-- What add checks before it looks for room.
+abbrev pub admitMay : List Refusal
+admitMay = Capacity ∷ Short ∷ Position ∷ Midround ∷ Damaged ∷ Name ∷ Weight ∷ Taken ∷ []
+
 abbrev pub removeMay : List Refusal
 removeMay = Capacity ∷ Short ∷ Position ∷ Midround ∷ Damaged ∷ Name ∷ Absent ∷ []
 
@@ -154,7 +158,12 @@ unfoldable pub reportCheck : Drive → List ℕ → ℕ → Check
 unfolding firstOf
 reportCheck d B x = firstOf reportMay (askedName d B x)
 
--- What the parts of these checks find: first what add and remove have in common, then parts of a capacity and a board alone.
+-- What the parts of these checks find: first what add checks before it looks for room, and what add and remove have in common; then parts of a capacity and
+-- a board alone.
+unfoldable pub admitCheck : Drive → List ℕ → ℕ → ℕ → Check
+unfolding firstOf
+admitCheck d B x w = firstOf admitMay (askedAdd d B x w)
+
 unfoldable pub changeCheck : Drive → List ℕ → Check
 unfolding firstOf
 changeCheck d B = firstOf changeMay (asked d B)
@@ -173,4 +182,4 @@ heldCheck C B x = firstOf (Name ∷ Absent ∷ []) (askedName (driveAt C 1) B x)
 
 unfoldable pub newCheck : ℕ → List ℕ → ℕ → ℕ → Check
 unfolding firstOf
-newCheck C B x w = firstOf (Name ∷ Weight ∷ Taken ∷ Room ∷ []) (askedAdd (driveAt C 1) B x w)
+newCheck C B x w = firstOf (Name ∷ Weight ∷ Taken ∷ []) (askedAdd (driveAt C 1) B x w)

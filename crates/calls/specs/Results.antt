@@ -1,8 +1,10 @@
 -- What each call returns and what it leaves in each slice that it was lent, for every input: document 01, "Calls and refusal numbers".
 -- A refused call gives back the record that it was given (open, one with C and p zero) and leaves every slice as it was.
 -- Assumes nothing.
+use mathlib.Core.Bool.{cond}
 use mathlib.Core.List.{List, [], _∷_, _++_, map}
 use Prim.Native.Nat.{ℕ}
+use lib.Dec.{eqb}
 use lib.ListN.{length, getD, drop, replicate}
 use Rattle.sequences.specs.Board.{leafAt, passedFrom, servedFrom, nextFrom}
 use Rattle.sequences.specs.Serving.{leavesFrom}
@@ -10,10 +12,11 @@ use Rattle.pieces.specs.Board.{weight, number}
 use Rattle.pieces.specs.Placing as placing
 use Rattle.pieces.specs.Tidying as tidying
 use Rattle.calls.specs.Records.{driveAt, movedTo}
-use Rattle.calls.specs.Answers.{Answer, answered}
+use Rattle.calls.specs.Answers.{Answer, answered, answeredWith, beside}
 use Rattle.calls.specs.Spacing.{spacingIn}
-use Rattle.calls.specs.Refusals.{openCheck, addCheck, removeCheck, slotCheck, roundCheck, reportCheck}
+use Rattle.calls.specs.Refusals.{numberOf, openCheck, addCheck, removeCheck, slotCheck, roundCheck, reportCheck}
 use Rattle.calls.specs.declared.Drive.{Drive}
+use Rattle.calls.specs.declared.Refusal.{Refusal}
 use Rattle.calls.specs.declared.Check.{Check}
 use Rattle.calls.specs.declared.Check.the-variants.{Clear, Refused}
 use Rattle.calls.specs.declared.Opened.{Opened}
@@ -46,6 +49,14 @@ abbrev pub changeBy : Check → ℕ → Change
 changeBy Clear idle = change.Done idle
 changeBy (Refused r) idle = change.Refused r
 
+-- Add's answer: the idle leaves left; ROOM, and no other refusal, has a case of its own, which says the idle leaves there are.
+abbrev pub refusedFor : Refusal → ℕ → Change
+refusedFor r idle = cond (eqb (numberOf r) 10) (change.Room idle) (change.Refused r)
+
+abbrev pub admittedBy : Check → ℕ → ℕ → Change
+admittedBy Clear left idle = change.Done left
+admittedBy (Refused r) left idle = refusedFor r idle
+
 abbrev pub servingBy : Check → ℕ → ℕ → ℕ → Serving
 servingBy Clear name leaf passed = serving.Slot name leaf passed
 servingBy (Refused r) name leaf passed = serving.Refused r
@@ -76,7 +87,7 @@ openedBoard C B = let done = idleBoard C B in ifClear (openCheck C B) done B
 abbrev pub changedTo : Drive → List ℕ → Changed
 changedTo d B = record { drive = d; answer = change.Done (weight (d .capacity) B 0) }
 
--- add: the weight is placed; the idle leaves left.
+-- add: the weight is placed; the idle leaves left. Refused for ROOM, it returns the idle leaves there are.
 abbrev pub addedBoard : Drive → List ℕ → ℕ → ℕ → List ℕ
 addedBoard d B x w = let done = placing.placed (d .capacity) B x w in ifClear (addCheck d B x w) done B
 
@@ -84,10 +95,16 @@ abbrev pub addedIdle : Drive → List ℕ → ℕ → ℕ → ℕ
 addedIdle d B x w = weight (d .capacity) (placing.placed (d .capacity) B x w) 0
 
 abbrev pub added : Drive → List ℕ → ℕ → ℕ → Changed
-added d B x w = let idle = addedIdle d B x w in record { drive = d; answer = changeBy (addCheck d B x w) idle }
+added d B x w =
+    let left = addedIdle d B x w in
+    let idle = weight (d .capacity) B 0 in
+    record { drive = d; answer = admittedBy (addCheck d B x w) left idle }
 
 abbrev pub addedAnswer : Drive → List ℕ → ℕ → ℕ → Answer
-addedAnswer d B x w = let idle = addedIdle d B x w in answered (addCheck d B x w) (idle ∷ [])
+addedAnswer d B x w =
+    let left = addedIdle d B x w in
+    let idle = weight (d .capacity) B 0 in
+    answeredWith (addCheck d B x w) (left ∷ []) (λ r. beside (numberOf r) idle ∷ [])
 
 -- remove: all leaves of the name become idle, and the board is tidied; the idle leaves left.
 abbrev pub removedBoard : Drive → List ℕ → ℕ → List ℕ

@@ -35,9 +35,9 @@ impl Drive {
         }
     }
 
-    // The refusals 1 to 8 and 10.
-    pub fn check_add(self, board: &[u16], name: u16, weight: u16) -> Check
-        ensures { λ r. ⌜ r ≡ refusals.addCheck self (now (board .entry)) name weight ⌝ }
+    // The refusals 1 to 8, which add looks at before it looks for room.
+    pub fn check_admit(self, board: &[u16], name: u16, weight: u16) -> Check
+        ensures { λ r. ⌜ r ≡ refusals.admitCheck self (now (board .entry)) name weight ⌝ }
     {
         match self.check_change(board) {
             Check::Refused(r) => Check::Refused(r),
@@ -144,7 +144,7 @@ fn check_held(board: &[u16], c: usize, name: u16) -> Check
     Check::Clear
 }
 
-// The refusals 6, 7, 8 and 10, for a name that the board is to take.
+// The refusals 6, 7 and 8, for a name that the board is to take.
 fn check_new(board: &[u16], c: usize, name: u16, weight: usize) -> Check
     requires { ⌜ (c ≤ length (now board)) × (c ≤ 4095) ⌝ }
     ensures { λ r. ⌜ r ≡ refusals.newCheck c (now (board .entry)) name weight ⌝ }
@@ -157,9 +157,6 @@ fn check_new(board: &[u16], c: usize, name: u16, weight: usize) -> Check
     }
     if 0 < pieces::weigh(board, c, name) {
         return Check::Refused(Refusal::Taken);
-    }
-    if pieces::weigh(board, c, 0) < weight {
-        return Check::Refused(Refusal::Room);
     }
     Check::Clear
 }

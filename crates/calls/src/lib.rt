@@ -8,6 +8,7 @@ ghost use Rattle.calls.specs.Records.{driveAt, movedTo};
 ghost use Rattle.calls.specs.Refusals.{numberOf};
 ghost use Rattle.calls.specs.Results as results;
 ghost use Rattle.calls.specs.Promises as promises;
+use pieces::Admission;
 
 pub mod checks;
 pub mod spacing;
@@ -74,9 +75,10 @@ pub struct Opened {
     pub answer: Opening,
 }
 
-// The answer of add and of remove: the idle leaves left.
+// The answer of add and of remove: the idle leaves left. ROOM has its own case, which says the idle leaves there are, and is never Refused(Room).
 pub enum Change {
     Done(u16),
+    Room(u16),
     Refused(Refusal),
 }
 
@@ -144,7 +146,7 @@ impl Drive {
         self
     }
 
-    // A change that is done: the idle leaves left are counted.
+    // A remove that is done: the idle leaves left are counted.
     fn counted(self, board: &[u16]) -> Changed
         requires { ⌜ (self .capacity ≤ length (now board)) × (self .capacity ≤ 4095) ⌝ }
         ensures { λ r. ⌜ r ≡ results.changedTo self (now (board .entry)) ⌝ }
@@ -180,14 +182,23 @@ impl Drive {
     pub fn add(self, board: &mut [u16], name: u16, weight: u16) -> Changed
         ensures { λ r. ⌜ promises.Adds self (now (board .entry)) name weight r (now (board .exit)) ⌝ }
     {
-        match self.check_add(board, name, weight) {
+        match self.check_admit(board, name, weight) {
             Check::Refused(r) => Changed {
                 drive: self,
                 answer: Change::Refused(r),
             },
             Check::Clear => {
-                pieces::place(board, self.capacity as usize, name, weight as usize);
-                self.counted(board)
+                let c = self.capacity as usize;
+                match pieces::admit(board, c, name, weight as usize) {
+                    Admission::Placed(left) => Changed {
+                        drive: self,
+                        answer: Change::Done(left as u16),
+                    },
+                    Admission::Room(idle) => Changed {
+                        drive: self,
+                        answer: Change::Room(idle as u16),
+                    },
+                }
             }
         }
     }

@@ -20,46 +20,45 @@ use Rattle.pieces.proofs.Laws.{pieces-ones}
 use Rattle.calls.specs.declared.Drive.{Drive}
 use Rattle.calls.specs.declared.Check.the-variants.{Clear}
 use Rattle.calls.specs.Records.{driveAt}
-use Rattle.calls.specs.Refusals.{firstOf, among, askedAdd, openMay, openCheck, addCheck, removeCheck, slotCheck, roundCheck, reportCheck}
+use Rattle.calls.specs.Refusals.{numberOf, firstOf, among, askedAdd, openMay, removeMay, slotMay, roundMay, reportMay, openCheck, addCheck, removeCheck, slotCheck, roundCheck, reportCheck}
+use Rattle.calls.specs.Answers.{beside}
 use Rattle.calls.specs.Results.{openedAnswer, slotNames, roundNames}
 use Rattle.calls.proofs.Laws.{clear-number, refusal, open-answers, add-answers, remove-answers, slot-answers, round-answers, report-answers, open-clear, slot-position}
 use Rattle.demands.specs.Histories.{Act, Add, Remove, Slot, Round, Report, State, Openable, does, says, opens, after, reach}
-use Rattle.demands.specs.Refusing.{mayAnswer, lent, writes, zeros, otherChecks}
+use Rattle.demands.specs.Refusing.{mayAnswer, lent, writes, refusedValues, otherChecks}
 use Rattle.demands.specs.Holdings.{isChange, held, heldOf, total}
 use Rattle.demands.specs.Rounds.{namesFrom, FullRound, InTurn, inARow, times, namesOn, Near, bound, demanded}
 use Rattle.demands.proofs.Checks.{clash}
-use Rattle.demands.proofs.Answering.{done-idle}
+use Rattle.demands.proofs.Answering.{beside-says, zeros-say, done-idle}
 use Rattle.demands.proofs.Valid.{Valid, slot-clear, clear-valid}
 use Rattle.demands.proofs.Reached.{Sound, after-one, opened-clear, always}
 use Rattle.demands.proofs.Rows.{full-names, moves, slots-full}
-use Rattle.demands.proofs.Standing.{never-damaged, midround, others-pass, room, served-round, served-fair}
+use Rattle.demands.proofs.Standing.{never-damaged, midround, others-pass, room, room-told, room-asked, served-round, served-fair}
 
 -- ---- Demand 1
 
--- Every call answers 0 or a number of its list. Refused, it gives back the record, the board and the output as they were, and zeros for values.
+-- Every call answers 0 or a number of its list. Refused, it gives back the record, the board and the output as they were, and zeros for values, but for ROOM
+-- the idle leaves.
 pub demand-1 : (a : Act) (s : State)
     → (among (says a s .number) (mayAnswer a) ≡ true)
-    × ((says a s .number ≡ 0 → ⊥) → (does a s ≡ s) × (writes a s ≡ lent a) × (says a s .values ≡ zeros (says a s .values)))
+    × ((says a s .number ≡ 0 → ⊥) → (does a s ≡ s) × (writes a s ≡ lent a) × (says a s .values ≡ refusedValues s (says a s)))
+unfolding among
 demand-1 (Add x w) s =
     let d = s .drive in
     let B = s .board in
-    (add-answers d B x w, λ n. rw (refusal (addCheck d B x w) n .1) (refl, refl, refl))
+    (add-answers d B x w, λ n. let f = refusal (addCheck d B x w) n in rw (f .1) (refl, refl, beside-says (numberOf (f .0)) (weight (d .capacity) B 0)))
 demand-1 (Remove x) s =
-    let d = s .drive in
-    let B = s .board in
-    (remove-answers d B x, λ n. rw (refusal (removeCheck d B x) n .1) (refl, refl, refl))
+    let m = remove-answers (s .drive) (s .board) x in
+    (m, λ n. let e = refusal (removeCheck (s .drive) (s .board) x) n .1 in (rw e refl, refl, zeros-say removeMay s (says (Remove x) s) m refl (rw e refl)))
 demand-1 Slot s =
-    let d = s .drive in
-    let B = s .board in
-    (slot-answers d B, λ n. rw (refusal (slotCheck d B) n .1) (refl, refl, refl))
+    let m = slot-answers (s .drive) (s .board) in
+    (m, λ n. let e = refusal (slotCheck (s .drive) (s .board)) n .1 in (rw e refl, refl, zeros-say slotMay s (says Slot s) m refl (rw e refl)))
 demand-1 (Round O) s =
-    let d = s .drive in
-    let B = s .board in
-    (round-answers d B O, λ n. rw (refusal (roundCheck d B (length O)) n .1) (refl, refl, refl))
+    let m = round-answers (s .drive) (s .board) O in
+    (m, λ n. let e = refusal (roundCheck (s .drive) (s .board) (length O)) n .1 in (refl, rw e refl, zeros-say roundMay s (says (Round O) s) m refl (rw e refl)))
 demand-1 (Report x) s =
-    let d = s .drive in
-    let B = s .board in
-    (report-answers d B x, λ n. rw (refusal (reportCheck d B x) n .1) (refl, refl, refl))
+    let m = report-answers (s .drive) (s .board) x in
+    (m, λ n. let e = refusal (reportCheck (s .drive) (s .board) x) n .1 in (refl, refl, zeros-say reportMay s (says (Report x) s) m refl (rw e refl)))
 
 -- So does open; refused, it gives a record with C and p zero, and the board as it was.
 pub demand-1-open : (C : ℕ) (B : List ℕ)
@@ -166,9 +165,21 @@ module _ (C : ℕ) (B : List ℕ) (may : Openable C B) (acts : List Act) where
   demand-3-within = let i = r .idle in let c = capacity acts in omega arith
 
   -- and an add that passes the other checks is refused for ROOM exactly when its weight exceeds C less the sum of the weights held; else it is done.
+  -- Refused so, it says that number,
   pub demand-3-room : (x w : ℕ) → firstOf otherChecks (askedAdd (reach C B acts .drive) (reach C B acts .board) x w) ≡ Clear
-      → says (Add x w) (reach C B acts) .number ≡ cond (ltb (C - total (held C B acts)) w) 10 0
-  demand-3-room x w e = room (reach C B acts) (held C B acts) r x w e ∙ ap (λ (n : ℕ). cond (ltb (n - total (held C B acts)) w) 10 0) (capacity acts)
+      → (says (Add x w) (reach C B acts) .number ≡ cond (ltb (C - total (held C B acts)) w) 10 0)
+      × (says (Add x w) (reach C B acts) .number ≡ 10 → says (Add x w) (reach C B acts) .values ≡ (C - total (held C B acts)) ∷ [])
+  demand-3-room x w e = (
+    room (reach C B acts) (held C B acts) r x w e ∙ ap (λ (n : ℕ). cond (ltb (n - total (held C B acts)) w) 10 0) (capacity acts),
+    λ full. room-told (reach C B acts) (held C B acts) r x w full ∙ ap (λ (n : ℕ). (n - total (held C B acts)) ∷ []) (capacity acts),
+  )
+
+  -- and that number can be asked for: if it is not 0, an add with that weight in its place is done.
+  pub demand-3-ask : (x w : ℕ) → says (Add x w) (reach C B acts) .number ≡ 10 → zero < C - total (held C B acts)
+      → says (Add x (C - total (held C B acts))) (reach C B acts) .number ≡ 0
+  demand-3-ask x w full =
+      subst (λ (n : ℕ). zero < n - total (held C B acts) → says (Add x (n - total (held C B acts))) (reach C B acts) .number ≡ 0) (capacity acts)
+      (room-asked (reach C B acts) (held C B acts) r x w full)
 
   -- At the start of a round an add passes the other checks if it has a name and a weight, and nothing is held of the name.
   pub demand-3-others : (x w : ℕ) → reach C B acts .drive .position ≡ 1 → (x ≡ 0 → ⊥) → (w ≡ 0 → ⊥) → heldOf x (held C B acts) ≡ 0
@@ -194,8 +205,8 @@ module _ (C : ℕ) (B : List ℕ) (may : Openable C B) (acts : List Act) where
       B' = reach C B acts .board
 
       go : (a : Act) → isChange a ≡ true → says a (reach C B acts) .number ≡ 0 → says a (reach C B acts) .values ≡ (C - total (held C B (acts ++ (a ∷ [])))) ∷ []
-      go (Add x w) e h = done-idle (d .capacity) (placed (d .capacity) B' x w) B' (addCheck d B' x w) h ∙ ap (λ (n : ℕ). n ∷ []) (idle-after (Add x w))
-      go (Remove x) e h = done-idle (d .capacity) (removed (d .capacity) B' x) B' (removeCheck d B' x) h ∙ ap (λ (n : ℕ). n ∷ []) (idle-after (Remove x))
+      go (Add x w) e h = done-idle (d .capacity) (placed (d .capacity) B' x w) B' (addCheck d B' x w) (λ q. beside (numberOf q) (weight (d .capacity) B' 0) ∷ []) h ∙ ap (λ (n : ℕ). n ∷ []) (idle-after (Add x w))
+      go (Remove x) e h = done-idle (d .capacity) (removed (d .capacity) B' x) B' (removeCheck d B' x) (λ q. 0 ∷ []) h ∙ ap (λ (n : ℕ). n ∷ []) (idle-after (Remove x))
       go Slot e h = clash e refl
       go (Round O) e h = clash e refl
       go (Report x) e h = clash e refl

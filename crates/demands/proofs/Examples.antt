@@ -41,11 +41,13 @@ later = early ++ (Slot ∷ rest) ++ (Remove 2 ∷ Remove 2 ∷ Add 0 1 ∷ Add 3
 opened : Openable 11 board
 opened = record { some = omega arith; few = omega arith; long = omega arith }
 
--- The numbers answered, two rounds in all; what is held at the first slot of each round; both rounds are full; and the names that the first serves, stream 7 eight
--- times. In its seven slots from slot 2 on that stream is served four times, so that C s = 44 and w t = 56 differ by more than m C = 11, and by less than the bound.
+-- The numbers answered, two rounds in all; the values of the first four, ROOM's idle leaves among them; what is held at the first slot of each round; both
+-- rounds are full; and the names that the first serves, stream 7 eight times. In its seven slots from slot 2 on that stream is served four times, so that
+-- C s = 44 and w t = 56 differ by more than m C = 11, and by less than the bound.
 history :
     (map (λ e. e .answer .number) (log (opens 11 board) (later ++ (Slot ∷ rest)))
     ≡ (0 ∷ 10 ∷ 0 ∷ 8 ∷ []) ++ (0 ∷ 4 ∷ 0 ∷ 0 ∷ 4 ∷ 0 ∷ 0 ∷ 0 ∷ 0 ∷ 0 ∷ 0 ∷ 0 ∷ 0 ∷ 0 ∷ []) ++ (0 ∷ 9 ∷ 6 ∷ 7 ∷ 0 ∷ []) ++ (0 ∷ 4 ∷ 0 ∷ 0 ∷ 4 ∷ 0 ∷ 0 ∷ 0 ∷ 0 ∷ 0 ∷ 0 ∷ 0 ∷ 0 ∷ 0 ∷ []))
+    × (map (λ e. e .answer .values) (log (opens 11 board) early) ≡ (3 ∷ []) ∷ (3 ∷ []) ∷ (1 ∷ []) ∷ (0 ∷ []) ∷ [])
     × (held 11 board early ≡ record { name = 2; weight = 2 } ∷ record { name = 7; weight = 8 } ∷ [])
     × (held 11 board later ≡ record { name = 3; weight = 3 } ∷ record { name = 7; weight = 8 } ∷ [])
     × FullRound (reach 11 board early) rest
@@ -55,4 +57,4 @@ history :
     × (times 7 (inARow 2 7 (namesFrom (reach 11 board early) rest)) ≡ 4)
     × (near (11 * 4) (8 * 7) (bound 11 8) ≡ true)
 unfolding log after names heldFrom without openCheck addCheck removeCheck slotCheck reportCheck idleBoard uniform whole pieces weight nth single sound sum fill first fit spot put place copy move twin join pair step tidy clear leafAt nextFrom countList ones onesIn
-history = (refl, refl, refl, record { first = refl; slots = refl }, record { first = refl; slots = refl }, refl, refl, refl, refl)
+history = (refl, refl, refl, refl, record { first = refl; slots = refl }, record { first = refl; slots = refl }, refl, refl, refl, refl)

@@ -11,5 +11,5 @@ pub use Rattle.demands.specs.Rounds.{servedBy, names, namesFrom, FullRou
 pub use Rattle.demands.proofs.Valid.{stateAt, Valid, slot-clear, clear-valid, slot-moves, valid-next}
 pub use Rattle.demands.proofs.Reached.{Sound, opened, step, reached, always, after-one, after-append, held-append}
 pub use Rattle.demands.proofs.Rows.{names-append, full-names, moves, slots-full}
-pub use Rattle.demands.proofs.Standing.{never-damaged, midround, others-pass, room, served-round, served-fair}
-pub use Rattle.demands.proofs.Demands.{demand-3-undamaged, demand-3-slot, demand-3-midround, demand-3-within, demand-3-room, demand-3-others, demand-3-held, demand-3-pieces, demand-3-idle, demand-3-full, demand-3-round, demand-3-fair, demand-3-demanded}
+pub use Rattle.demands.proofs.Standing.{never-damaged, midround, others-pass, room, room-told, room-asked, served-round, served-fair}
+pub use Rattle.demands.proofs.Demands.{demand-3-undamaged, demand-3-slot, demand-3-midround, demand-3-within, demand-3-room, demand-3-ask, demand-3-others, demand-3-held, demand-3-pieces, demand-3-idle, demand-3-full, demand-3-round, demand-3-fair, demand-3-demanded}

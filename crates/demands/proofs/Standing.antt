@@ -1,25 +1,28 @@
 -- What holds of a good board that has on it what is held: what the calls answer there, and what a full round serves.
 -- Assumes nothing.
-use mathlib.Core.Path.{_≡_, refl, ap, _∙_}
+use mathlib.Core.Path.{_≡_, refl, sym, ap, _∙_}
 use mathlib.Core.Bool.{true, false, not, cond}
 use mathlib.Core.List.{List, [], _∷_}
 use Prim.Native.Nat.{ℕ, zero, _+_, _-_, _*_, _≤_, _<_}
+use native.Mathlib.Nat.{le-refl}
 use native.Mathlib.Omega.{arith}
 use lib.Dec.{ltb}
 use lib.ListN.{length}
-use borrow.Author.Tests.{ne-eqb}
+use borrow.Author.Tests.{ne-eqb, le-ltb}
 use Rattle.sequences.specs.Serving.{leavesFrom, afterSlots}
 use Rattle.pieces.specs.Board.{good, weight, number}
 use Rattle.calls.specs.declared.Drive.{Drive}
 use Rattle.calls.specs.declared.Refusal.the-variants.{Midround, Damaged, Name, Weight, Taken, Room}
 use Rattle.calls.specs.declared.Check.the-variants.{Clear}
 use Rattle.calls.specs.Refusals.{firstOf, applies, asked, askedAdd, askedName, askedOutput, addMay, removeMay, slotMay, roundMay, reportMay, addCheck, removeCheck, slotCheck, roundCheck, reportCheck}
+use Rattle.calls.specs.Results.{addedIdle}
+use Rattle.calls.proofs.Laws.{change-start, admit-change, admit-clear, add-full}
 use Rattle.demands.specs.Histories.{Act, Add, Remove, Slot, Round, Report, State, does, says}
 use Rattle.demands.specs.Refusing.{otherChecks}
 use Rattle.demands.specs.Holdings.{Stream, isChange, heldOf, total}
 use Rattle.demands.specs.Rounds.{namesFrom, FullRound, inARow, times, Near, bound}
 use Rattle.demands.proofs.Checks.{clash, none-applies, first-after}
-use Rattle.demands.proofs.Answering.{undamaged, room-number}
+use Rattle.demands.proofs.Answering.{undamaged, room-number, room-says}
 use Rattle.demands.proofs.Valid.{slot-clear, add-midround, remove-midround}
 use Rattle.demands.proofs.Reached.{Sound}
 use Rattle.demands.proofs.Rows.{full-names, row, times-on}
@@ -77,6 +80,22 @@ module _ (s : State) (hs : List Stream) (is : Sound s hs) where
   room x w e =
       let i : C - total hs ≡ weight C B 0 = let j = is .idle in omega arith in
       rw (first-after (askedAdd (s .drive) B x w) otherChecks (Room ∷ []) e, i) (room-number (ltb (weight C B 0) w))
+
+  -- which it says,
+  pub room-told : (x w : ℕ) → says (Add x w) s .number ≡ 10 → says (Add x w) s .values ≡ (s .drive .capacity - total hs) ∷ []
+  room-told x w e =
+      let i : weight C B 0 ≡ C - total hs = let j = is .idle in omega arith in
+      room-says (addCheck (s .drive) B x w) (addedIdle (s .drive) B x w ∷ []) (weight C B 0) e ∙ ap (λ (n : ℕ). n ∷ []) i
+
+  -- and which can be asked for
+  pub room-asked : (x w : ℕ) → says (Add x w) s .number ≡ 10 → zero < s .drive .capacity - total hs → says (Add x (s .drive .capacity - total hs)) s .number ≡ 0
+  room-asked x w e some =
+      let clear = add-full (s .drive) B x w e in
+      let may = admit-clear (s .drive) B x w clear in
+      let start = change-start (s .drive) B (admit-change (s .drive) B x w clear) in
+      let n = C - total hs in
+      let others = others-pass x n start (may .named) (λ z. omega arith) (sym (is .names x (may .named)) ∙ may .absent) in
+      room x n others ∙ rw (le-ltb n n (le-refl n)) refl
 
   module _ (rest : List Act) (full : FullRound s rest) where
     -- a full round serves a name as often as it holds

@@ -1,10 +1,14 @@
 -- What the demands say of refusals: those that a call may answer, what a refusal leaves, and the checks of an add beside ROOM.
 -- Assumes nothing.
+use mathlib.Core.Bool.{cond}
 use mathlib.Core.List.{List, [], _∷_, map}
 use Prim.Native.Nat.{ℕ}
+use lib.Dec.{eqb}
+use Rattle.pieces.specs.Board.{weight}
 use Rattle.calls.specs.declared.Refusal.{Refusal}
 use Rattle.calls.specs.declared.Refusal.the-variants.{Capacity, Short, Position, Midround, Damaged, Name, Weight, Taken}
 use Rattle.calls.specs.Refusals.{addMay, removeMay, slotMay, roundMay, reportMay}
+use Rattle.calls.specs.Answers.{Answer}
 use Rattle.calls.specs.Results.{roundedOutput}
 use Rattle.demands.specs.Histories.{Act, Add, Remove, Slot, Round, Report, State}
 
@@ -34,6 +38,10 @@ writes (Report x) s = []
 -- As many zeros.
 abbrev pub zeros : List ℕ → List ℕ
 zeros vs = map (λ v. 0) vs
+
+-- What a refusal in the state s says for values: as many zeros, but for ROOM the idle leaves.
+abbrev pub refusedValues : State → Answer → List ℕ
+refusedValues s a = cond (eqb (a .number) 10) (weight (s .drive .capacity) (s .board) 0 ∷ []) (zeros (a .values))
 
 -- The checks of an add beside ROOM.
 abbrev pub otherChecks : List Refusal

@@ -17,5 +17,5 @@ reply d a = record { drive = d; number = a .number; first = getD (a .values) 0 0
 abbrev pub done : Drive → ℕ → ℕ → ℕ → Reply
 done d a b c = reply d (record { number = 0; values = a ∷ b ∷ c ∷ [] })
 
-abbrev pub refusal : Drive → Refusal → Reply
-refusal d r = reply d (record { number = numberOf r; values = [] })
+abbrev pub refusal : Drive → Refusal → ℕ → Reply
+refusal d r a = reply d (record { number = numberOf r; values = a ∷ [] })

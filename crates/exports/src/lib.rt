@@ -40,14 +40,14 @@ fn reply_done(drive: Drive, first: u16, second: u16, third: u16) -> Reply
     }
 }
 
-// A call that is refused.
-fn reply_refused(drive: Drive, why: Refusal) -> Reply
-    ensures { λ r. ⌜ r ≡ refusal drive why ⌝ }
+// A call that is refused. Only ROOM has a value.
+fn reply_refused(drive: Drive, why: Refusal, first: u16) -> Reply
+    ensures { λ r. ⌜ r ≡ refusal drive why first ⌝ }
 {
     Reply {
         drive,
         number: why.number(),
-        first: 0,
+        first,
         second: 0,
         third: 0,
     }
@@ -59,7 +59,7 @@ fn reply_opening(drive: Drive, answer: Opening) -> Reply
 {
     match answer {
         Opening::Done => reply_done(drive, 0, 0, 0),
-        Opening::Refused(why) => reply_refused(drive, why),
+        Opening::Refused(why) => reply_refused(drive, why, 0),
     }
 }
 
@@ -69,7 +69,8 @@ fn reply_change(drive: Drive, answer: Change) -> Reply
 {
     match answer {
         Change::Done(idle) => reply_done(drive, idle, 0, 0),
-        Change::Refused(why) => reply_refused(drive, why),
+        Change::Room(idle) => reply_refused(drive, Refusal::Room, idle),
+        Change::Refused(why) => reply_refused(drive, why, 0),
     }
 }
 
@@ -79,7 +80,7 @@ fn reply_serving(drive: Drive, answer: Serving) -> Reply
 {
     match answer {
         Serving::Slot { name, leaf, passed } => reply_done(drive, name, leaf, passed),
-        Serving::Refused(why) => reply_refused(drive, why),
+        Serving::Refused(why) => reply_refused(drive, why, 0),
     }
 }
 
@@ -89,7 +90,7 @@ fn reply_rounding(drive: Drive, answer: Rounding) -> Reply
 {
     match answer {
         Rounding::Done => reply_done(drive, 0, 0, 0),
-        Rounding::Refused(why) => reply_refused(drive, why),
+        Rounding::Refused(why) => reply_refused(drive, why, 0),
     }
 }
 
@@ -103,7 +104,7 @@ fn reply_report(drive: Drive, answer: Report) -> Reply
             pieces,
             spacing,
         } => reply_done(drive, weight, pieces, spacing),
-        Report::Refused(why) => reply_refused(drive, why),
+        Report::Refused(why) => reply_refused(drive, why, 0),
     }
 }
 
@@ -114,7 +115,7 @@ fn reply_saving(drive: Drive, answer: Saving) -> Reply
 {
     match answer {
         Saving::Done(bytes) => reply_done(drive, bytes as u16, 0, 0),
-        Saving::Refused(why) => reply_refused(drive, why),
+        Saving::Refused(why) => reply_refused(drive, why, 0),
     }
 }
 
@@ -124,7 +125,7 @@ fn reply_loading(drive: Drive, answer: Loading) -> Reply
 {
     match answer {
         Loading::Done => reply_done(drive, 0, 0, 0),
-        Loading::Refused(why) => reply_refused(drive, why),
+        Loading::Refused(why) => reply_refused(drive, why, 0),
     }
 }
 
@@ -139,7 +140,7 @@ pub extern "C" fn mandrozsi_open(capacity: u16, board: &mut [u16]) -> Reply
     reply_opening(after, answer)
 }
 
-// Admits a stream: the idle leaves left.
+// Admits a stream: the idle leaves left; refused for ROOM, the idle leaves there are.
 #[no_mangle]
 pub extern "C" fn mandrozsi_add(drive: Drive, board: &mut [u16], name: u16, weight: u16) -> Reply
     ensures { λ r. ⌜ (r ≡ reply drive (results.addedAnswer drive (now (board .entry)) name weight)) × (now (board .exit) ≡ results.addedBoard drive (now (board .entry)) name weight) ⌝ }

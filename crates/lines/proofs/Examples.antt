@@ -31,10 +31,11 @@ longest-read : (length long ≡ longest) × (parsed long ≡ Add 65535 65535)
 unfolding parsed command words withTwo same numeral digits digit spelled
 longest-read = (refl, refl)
 
--- `0 7 0`, `10`, `0 4095`, each with its line feed
+-- `0 7 0`, `4`, `10 3`, `0 4095`, each with its line feed
 prints :
     (line 0 (7 ∷ 0 ∷ []) ≡ 48 ∷ 32 ∷ 55 ∷ 32 ∷ 48 ∷ 10 ∷ [])
-    × (line 10 [] ≡ 49 ∷ 48 ∷ 10 ∷ [])
+    × (line 4 [] ≡ 52 ∷ 10 ∷ [])
+    × (line 10 (3 ∷ []) ≡ 49 ∷ 48 ∷ 32 ∷ 51 ∷ 10 ∷ [])
     × (line 0 (4095 ∷ []) ≡ 48 ∷ 32 ∷ 52 ∷ 48 ∷ 57 ∷ 53 ∷ 10 ∷ [])
 unfolding line fields field decimal decimalIn
-prints = (refl, refl, refl)
+prints = (refl, refl, refl, refl)

@@ -8,6 +8,7 @@ use lib.Dec.{leb}
 use lib.ListN.{length}
 use lib.Seq.{sets}
 use Rattle.calls.specs.declared.Drive.{Drive}
+use Rattle.calls.specs.declared.Refusal.the-variants.{Room}
 use Rattle.calls.specs.declared.Opening.{Opening}
 use Rattle.calls.specs.declared.Opening.the-variants as opening
 use Rattle.calls.specs.declared.Change.{Change}
@@ -25,13 +26,14 @@ use Rattle.lines.specs.Grammar.{parsed}
 use Rattle.lines.specs.Printing.{line, unknown}
 
 -- "Output: the answer number (0 for done), then for add and remove the idle leaves, for slot the name and leaf, for round the C names.
--- A refusal prints its number alone."
+-- A refusal prints its number alone"; ROOM prints 10 and the idle leaves (document 02, No. 5).
 abbrev pub openingLine : Opening → List ℕ
 openingLine opening.Done = line 0 []
 openingLine (opening.Refused r) = line (numberOf r) []
 
 abbrev pub changeLine : Change → List ℕ
 changeLine (change.Done idle) = line 0 (idle ∷ [])
+changeLine (change.Room idle) = line (numberOf Room) (idle ∷ [])
 changeLine (change.Refused r) = line (numberOf r) []
 
 abbrev pub servingLine : Serving → List ℕ

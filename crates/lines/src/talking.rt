@@ -74,6 +74,13 @@ fn tell_change(changed: Changed, out: &mut [u8], at: usize) -> Stepped
             drive,
             to: put_value(out, at, 0, idle as u64),
         },
+        Change::Room(idle) => {
+            let number = Refusal::Room.number();
+            Stepped {
+                drive,
+                to: put_value(out, at, number as u64, idle as u64),
+            }
+        }
         Change::Refused(r) => tell_refusal(drive, r, out, at),
     }
 }

@@ -17,4 +17,5 @@ mod Steps
 mod Sums
 mod Opened
 pub mod Laws
+mod Admitting
 mod Examples

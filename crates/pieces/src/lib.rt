@@ -335,7 +335,7 @@ fn place_digit(board: &mut [u16], c: usize, n: usize, name: u16, weight: usize)
 }
 
 // Gives a name as many leaves as its weight says, cut into its powers of two, largest first.
-pub fn place(board: &mut [u16], c: usize, name: u16, weight: usize)
+fn place(board: &mut [u16], c: usize, name: u16, weight: usize)
     requires { ⌜ placing.Placeable c (now board) name weight ⌝ }
     ensures { λ _. ⌜ now (board .exit) ≡ placing.placed c (now (board .entry)) name weight ⌝ }
 {
@@ -344,6 +344,25 @@ pub fn place(board: &mut [u16], c: usize, name: u16, weight: usize)
         n -= 1;
         place_digit(board, c, n, name, weight);
     }
+}
+
+// What became of a weight: placed, with the idle leaves left; or more than there is room for, with the idle leaves there are.
+pub enum Admission {
+    Placed(usize),
+    Room(usize),
+}
+
+// Places a weight where it does not exceed the idle leaves. They are counted once: what is left follows from that count.
+pub fn admit(board: &mut [u16], c: usize, name: u16, weight: usize) -> Admission
+    requires { ⌜ placing.Admissible c (now board) name ⌝ }
+    ensures { λ r. ⌜ (r ≡ placing.admission c (now (board .entry)) name weight) × (now (board .exit) ≡ placing.admitted c (now (board .entry)) name weight) ⌝ }
+{
+    let idle = weigh(board, c, 0);
+    if idle < weight {
+        return Admission::Room(idle);
+    }
+    place(board, c, name, weight);
+    Admission::Placed(idle - weight)
 }
 
 // ---- removing and tidying

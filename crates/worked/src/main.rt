@@ -87,6 +87,10 @@ fn say_change(answer: Change) {
             say_number(0);
             say_number(idle);
         }
+        Change::Room(idle) => {
+            say_number(Refusal::Room.number());
+            say_number(idle);
+        }
         Change::Refused(n) => {
             say_number(n.number());
             say_number(0);

@@ -127,18 +127,18 @@ pub fn add(record: (u16, u16), board: &mut [u16], name: u16, weight: u16) -> Ans
         return Answer::refused(record, number);
     }
     let leaves = &mut board[..record.0.into()];
-    let idle = weigh(leaves, 0);
+    let idle = weigh(leaves, 0) as u16;
     number = if name == 0 {
         6
     } else if weight == 0 {
         7
     } else if leaves.contains(&name) {
         8
-    } else if usize::from(weight) > idle {
-        10
+    } else if weight > idle {
+        return Answer::no_room(record, idle);
     } else {
         place(leaves, name, weight);
-        return Answer::done(record, [idle as u16 - weight, 0, 0]);
+        return Answer::done(record, [idle - weight, 0, 0]);
     };
     Answer::refused(record, number)
 }

@@ -1,4 +1,4 @@
-//! Document 01 by the letter: sequences as the lists that the recursion gives, pieces by looking at every aligned run, tidying by listing all
+//! Document 01 by the letter, with what document 02 amends: sequences as the lists that the recursion gives, pieces by looking at every aligned run, tidying by listing all
 //! pieces anew after each move. Slow, and meant to be believed at sight.
 use crate::Answer;
 
@@ -210,8 +210,10 @@ pub fn add(record: (u16, u16), board: &mut [u16], name: u16, weight: u16) -> Ans
         weight,
         ..asked(record, board)
     };
-    if let Some(number) = given.lowest(&[CAPACITY, SHORT, POSITION, MIDROUND, DAMAGED, NAME, WEIGHT, TAKEN, ROOM]) {
-        return Answer::refused(record, number);
+    match given.lowest(&[CAPACITY, SHORT, POSITION, MIDROUND, DAMAGED, NAME, WEIGHT, TAKEN, ROOM]) {
+        Some(ROOM) => return Answer::no_room(record, weight_of(given.leaves(), 0) as u16),
+        Some(number) => return Answer::refused(record, number),
+        None => {}
     }
     let leaves = &mut board[..record.0.into()];
     place(leaves, name, weight);

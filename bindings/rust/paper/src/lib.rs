@@ -5,7 +5,7 @@ pub mod letter;
 pub mod random;
 pub mod trial;
 
-/// What a call answers: the record (C, p), the number (0 for done), and the values, zeros where it has none.
+/// What a call answers: the record (C, p), the number (0 for done), and the values, zeros where it has none. Of the refusals ROOM alone has one.
 #[derive(Clone, Copy, Debug, PartialEq, Eq)]
 pub struct Answer {
     pub record: (u16, u16),
@@ -23,6 +23,15 @@ impl Answer {
             record,
             number,
             values: [0; 3],
+        }
+    }
+
+    /// ROOM: the idle leaves there are (document 02, No. 5).
+    pub fn no_room(record: (u16, u16), idle: u16) -> Answer {
+        Answer {
+            record,
+            number: 10,
+            values: [idle, 0, 0],
         }
     }
 }

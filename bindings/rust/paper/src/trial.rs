@@ -237,8 +237,14 @@ impl<'a, C: Calls> Trial<'a, C> {
                     } else {
                         1 + random.below(largest) as u16
                     };
-                    if self.add(record, &mut board, name, weight).number == 0 {
-                        names.push(name);
+                    let answer = self.add(record, &mut board, name, weight);
+                    match (answer.number, answer.values[0]) {
+                        (0, _) => names.push(name),
+                        (10, idle) if idle > 0 => {
+                            let asked = self.add(record, &mut board.clone(), name, idle);
+                            assert_eq!(asked.number, 0, "ROOM said {idle}");
+                        }
+                        _ => {}
                     }
                 }
                 4..=6 => {

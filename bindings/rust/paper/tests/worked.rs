@@ -55,16 +55,20 @@ fn boards() {
         let mut part = [0; 8];
         assert_eq!(add((8, 1), &mut part, 7, 5).values[0], 3);
         assert_eq!(part, [7, 7, 7, 7, 7, 0, 0, 0]);
-        assert_eq!(add((8, 1), &mut part, 2, 4).number, 10);
+        assert_eq!(add((8, 1), &mut part, 2, 4), Answer::no_room((8, 1), 3));
         assert_eq!(add((8, 1), &mut part, 2, 3).number, 0);
 
         let mut one = [0];
         assert_eq!(add((1, 1), &mut one, 5, 1).number, 0);
-        assert_eq!(add((1, 1), &mut one, 6, 1).number, 10);
+        assert_eq!(add((1, 1), &mut one, 6, 1), Answer::no_room((1, 1), 0));
         assert_eq!(add((1, 1), &mut one, 0, 0).number, 6);
         assert_eq!(add((1, 1), &mut one, 5, 9).number, 8);
         assert_eq!(add((2, 1), &mut [4, 0], 4, 1).number, 8);
         assert_eq!(add((5, 1), &mut [4, 0, 0, 4, 0], 4, 1).number, 5);
+
+        let mut seven = [0; 7];
+        assert_eq!(add((7, 1), &mut seven, 1, 8), Answer::no_room((7, 1), 7));
+        assert_eq!(seven, [0; 7]);
 
         let mut full = vec![0; 4095];
         assert_eq!(add((4095, 1), &mut full, 1, 4095), Answer::done((4095, 1), [0; 3]));

@@ -3,12 +3,13 @@
 use borrow.Author.Needs.{needs}
 use mathlib.Core.Path.{sym, _∙_}
 use native.Mathlib.Omega.{arith}
-use Rattle.calls.proofs.Checking.{add-clear}
+use Rattle.calls.proofs.Checking.{admit-clear}
+use Rattle.calls.proofs.Admitting.{add-early, add-placed, add-room}
 use Rattle.calls.proofs.Drive.add.Statement.{statement}
 use Rattle.calls.proofs.Drive.add.Tie as tie
 
-check-add-requires : tie.Need-check-add-requires
-check-add-requires c κs = search needs
+check-admit-requires : tie.Need-check-admit-requires
+check-admit-requires c κs = search needs
 
 enum-known-r : tie.Need-enum-known-r
 enum-known-r c = search needs
@@ -16,47 +17,58 @@ enum-known-r c = search needs
 enum-told : tie.Need-enum-told
 enum-told c = search needs
 
-cast-place : tie.Need-cast-place
-cast-place c = search needs
+cast-c : tie.Need-cast-c
+cast-c c = search needs
 
-place-requires : tie.Need-place-requires
-place-requires c κs =
-    let s = add-clear _ _ _ _ (sym (c .before .before .before .before .check-add .ensures) ∙ c .before .before .enum-told .given .1) in
-    record { small = s .small; long = s .long; sound = s .sound; named = s .named; absent = s .absent; room = omega (arith, s .room) }
+admit-requires : tie.Need-admit-requires
+admit-requires c κs = admit-clear _ _ _ _ (sym (c .before .before .before .before .check-admit .ensures) ∙ c .before .before .enum-told .given .1)
 
-counted-requires : tie.Need-counted-requires
-counted-requires c κs =
-    let s = add-clear _ _ _ _ (sym (c .before .before .before .before .before .before .before .before .check-add .ensures) ∙ c .before .before .before .before .before .before .enum-told .given .1) in
-    (omega (arith, c .before .before .before .place .kept .0), s .small)
+enum-known-left : tie.Need-enum-known-left
+enum-known-left c = search needs
+
+cast-t19 : tie.Need-cast-t19
+cast-t19 c = omega (arith, add-placed _ _ _ _ (sym (c .before .before .before .before .before .before .before .before .before .before .check-admit .ensures) ∙ c .before .before .before .before .before .before .before .before .enum-told .given .1) _ _ (c .before .before .before .before .before .admit .ensures .1) (sym (c .before .left .given .1) ∙ c .before .before .before .before .before .admit .ensures .0) .0)
+
+enum-known-idle : tie.Need-enum-known-idle
+enum-known-idle c = search needs
+
+cast-t21 : tie.Need-cast-t21
+cast-t21 c = omega (arith, add-room _ _ _ _ (sym (c .before .before .before .before .before .before .before .before .before .before .check-admit .ensures) ∙ c .before .before .before .before .before .before .before .before .enum-told .given .1) _ _ (c .before .before .before .before .before .admit .ensures .1) (sym (c .before .idle .given .1) ∙ c .before .before .before .before .before .admit .ensures .0) .0)
 
 same-length : tie.Need-same-length
 same-length c = search needs
 
 returns : tie.Need-returns
-returns c =
-    let e = sym (c .before .before .before .check-add .ensures) ∙ c .before .r .given .1 in
-    (simp e, simp e, simp e)
+returns c = add-early _ _ _ _ _ (sym (c .before .before .before .check-admit .ensures) ∙ c .before .r .given .1)
 
 same-length-2 : tie.Need-same-length-2
 same-length-2 c = search needs
 
 returns-2 : tie.Need-returns-2
-returns-2 c =
-    let e = sym (c .before .before .before .before .before .before .before .before .before .check-add .ensures) ∙ c .before .before .before .before .before .before .before .enum-told .given .1 in
-    let p = c .before .before .before .before .place .ensures in
-    (simp (e, c .counted .ensures, p), simp (e, c .counted .ensures, p), simp (e, p))
+returns-2 c = add-placed _ _ _ _ (sym (c .before .before .before .before .before .before .before .before .before .before .check-admit .ensures) ∙ c .before .before .before .before .before .before .before .before .enum-told .given .1) _ _ (c .before .before .before .before .before .admit .ensures .1) (sym (c .before .left .given .1) ∙ c .before .before .before .before .before .admit .ensures .0) .1
+
+same-length-3 : tie.Need-same-length-3
+same-length-3 c = search needs
+
+returns-3 : tie.Need-returns-3
+returns-3 c = add-room _ _ _ _ (sym (c .before .before .before .before .before .before .before .before .before .before .check-admit .ensures) ∙ c .before .before .before .before .before .before .before .before .enum-told .given .1) _ _ (c .before .before .before .before .before .admit .ensures .1) (sym (c .before .idle .given .1) ∙ c .before .before .before .before .before .admit .ensures .0) .1
 
 pub add-spec : {M : Type 1} → statement M
 add-spec =
     tie.close
     (tie.spec
-    check-add-requires
+    check-admit-requires
     enum-known-r
     enum-told
-    cast-place
-    place-requires
-    counted-requires
+    cast-c
+    admit-requires
+    enum-known-left
+    cast-t19
+    enum-known-idle
+    cast-t21
     same-length
     returns
     same-length-2
-    returns-2)
+    returns-2
+    same-length-3
+    returns-3)

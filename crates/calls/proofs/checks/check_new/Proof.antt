@@ -23,24 +23,11 @@ returns-3 c =
     let a = c .before .before in
     simp (ne-eqb _ _ (a .before .if1 .left), ne-eqb _ _ (a .if2 .left), ← c .before .weigh .ensures, lt-ltb _ _ (c .if3 .taken))
 
-weigh-requires-2 : tie.Need-weigh-requires-2
-weigh-requires-2 c κs = search needs
-
 returns-4 : tie.Need-returns-4
 unfolding newCheck
 returns-4 c =
-    let b = c .before .before in
-    let a = b .before .before in
-    simp
-    (ne-eqb _ _ (a .before .if1 .left), ne-eqb _ _ (a .if2 .left), ← b .before .weigh .ensures, le-ltb _ _ (b .if3 .left), ← c .before .weigh2 .ensures, lt-ltb _ _ (c .if4 .taken))
-
-returns-5 : tie.Need-returns-5
-unfolding newCheck
-returns-5 c =
-    let b = c .before .before in
-    let a = b .before .before in
-    simp
-    (ne-eqb _ _ (a .before .if1 .left), ne-eqb _ _ (a .if2 .left), ← b .before .weigh .ensures, le-ltb _ _ (b .if3 .left), ← c .before .weigh2 .ensures, le-ltb _ _ (c .if4 .left))
+    let a = c .before .before in
+    simp (ne-eqb _ _ (a .before .if1 .left), ne-eqb _ _ (a .if2 .left), ← c .before .weigh .ensures, le-ltb _ _ (c .if3 .left))
 
 pub check-new-spec : {M : Type 1} → statement M
-check-new-spec = tie.close (tie.spec returns returns-2 weigh-requires returns-3 weigh-requires-2 returns-4 returns-5)
+check-new-spec = tie.close (tie.spec returns returns-2 weigh-requires returns-3 returns-4)

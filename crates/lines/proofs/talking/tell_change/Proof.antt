@@ -17,6 +17,21 @@ put-value-requires c κs = search needs
 enum-known-answer-2 : tie.Need-enum-known-answer-2
 enum-known-answer-2 c = search needs
 
+number-requires : tie.Need-number-requires
+number-requires c κs = search needs
+
+cast-put-value-2 : tie.Need-cast-put-value-2
+cast-put-value-2 c = search needs
+
+cast-put-value-3 : tie.Need-cast-put-value-3
+cast-put-value-3 c = search needs
+
+put-value-requires-2 : tie.Need-put-value-requires-2
+put-value-requires-2 c κs = search needs
+
+enum-known-answer-3 : tie.Need-enum-known-answer-3
+enum-known-answer-3 c = search needs
+
 tell-refusal-requires : tie.Need-tell-refusal-requires
 tell-refusal-requires c κs = search needs
 
@@ -30,7 +45,13 @@ same-length-2 : tie.Need-same-length-2
 same-length-2 c = search needs
 
 returns-2 : tie.Need-returns-2
-returns-2 c = rw (c .before .before .before .before .before .answer2 .given .1) (c .before .before .tell-refusal .ensures)
+returns-2 c = rw (c .before .before .before .before .before .before .answer2 .given .1) (told _ _ _ _ _ _ _ _ (rw (c .before .before .before .before .number .ensures) at (c .before .before .put-value2 .ensures)) (omega arith))
+
+same-length-3 : tie.Need-same-length-3
+same-length-3 c = search needs
+
+returns-3 : tie.Need-returns-3
+returns-3 c = rw (c .before .before .before .before .before .answer3 .given .1) (c .before .before .tell-refusal .ensures)
 
 pub tell-change-spec : {M : Type 1} → statement M
 tell-change-spec =
@@ -40,8 +61,15 @@ tell-change-spec =
     cast-put-value
     put-value-requires
     enum-known-answer-2
+    number-requires
+    cast-put-value-2
+    cast-put-value-3
+    put-value-requires-2
+    enum-known-answer-3
     tell-refusal-requires
     same-length
     returns
     same-length-2
-    returns-2)
+    returns-2
+    same-length-3
+    returns-3)

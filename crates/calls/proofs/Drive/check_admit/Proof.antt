@@ -1,10 +1,10 @@
--- `calls::Drive::check_add` meets its contract.
+-- `calls::Drive::check_admit` meets its contract.
 -- Assumes nothing.
 use borrow.Author.Needs.{needs}
 use mathlib.Core.Path.{sym, _∙_}
-use Rattle.calls.proofs.Checking.{add-parts, change-slot, slot-sized}
-use Rattle.calls.proofs.Drive.check_add.Statement.{statement}
-use Rattle.calls.proofs.Drive.check_add.Tie as tie
+use Rattle.calls.proofs.Checking.{admit-parts, change-slot, slot-sized}
+use Rattle.calls.proofs.Drive.check_admit.Statement.{statement}
+use Rattle.calls.proofs.Drive.check_admit.Tie as tie
 
 check-change-requires : tie.Need-check-change-requires
 check-change-requires c κs = search needs
@@ -24,15 +24,15 @@ check-new-requires c κs =
     (s .long, s .few)
 
 returns : tie.Need-returns
-returns c = simp (add-parts, sym (c .before .before .before .check-change .ensures) ∙ c .before .r .given .1)
+returns c = simp (admit-parts, sym (c .before .before .before .check-change .ensures) ∙ c .before .r .given .1)
 
 returns-2 : tie.Need-returns-2
 returns-2 c =
     c .check-new .ensures
-    ∙ simp (add-parts, sym (c .before .before .before .before .check-change .ensures) ∙ c .before .before .enum-told .given .1)
+    ∙ simp (admit-parts, sym (c .before .before .before .before .check-change .ensures) ∙ c .before .before .enum-told .given .1)
 
-pub check-add-spec : {M : Type 1} → statement M
-check-add-spec =
+pub check-admit-spec : {M : Type 1} → statement M
+check-admit-spec =
     tie.close
     (tie.spec
     check-change-requires
