@@ -60,7 +60,7 @@ pub fn put_value(out: &mut [u8], at: usize, number: u64, value: u64) -> usize
     ensures { λ r. ⌜ (r ≡ at + length (line number (value ∷ []))) × (now (out .exit) ≡ sets (now (out .entry)) at (line number (value ∷ []))) × (r ≤ at + 24) ⌝ }
 {
     let numbered = put_number(out, at, number);
-    let valued = put_field(out, numbered, value);
-    out[valued] = b'\n';
-    valued + 1
+    let end = put_field(out, numbered, value);
+    out[end] = b'\n';
+    end + 1
 }
