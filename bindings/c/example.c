@@ -1,17 +1,21 @@
 /* Opens a board, admits two streams, serves a round slot by slot, saves the board and reads it back.
  * It prints what it does, and ends with status 1 at the first answer that is not the one expected. */
+#include <inttypes.h>
 #include <stdio.h>
 #include <string.h>
 
 #include "mandrozsi.h"
 
-_Static_assert(sizeof(mandrozsi_drive) == 4 && offsetof(mandrozsi_drive, position) == 2, "the record is two 16-bit numbers");
-_Static_assert(sizeof(mandrozsi_reply) == 12 && offsetof(mandrozsi_reply, number) == 4 && offsetof(mandrozsi_reply, third) == 10,
-               "a reply is six 16-bit numbers");
+_Static_assert(sizeof(mandrozsi_drive) == 16 && offsetof(mandrozsi_drive, position) == 2 && offsetof(mandrozsi_drive, round) == 8,
+               "the record is two 16-bit numbers and one of 64 bits");
+_Static_assert(sizeof(mandrozsi_said) == 40 && offsetof(mandrozsi_said, fourth) == 32, "what is said is five 64-bit numbers");
+_Static_assert(sizeof(mandrozsi_reply) == 56 && offsetof(mandrozsi_reply, said) == 16, "a reply is the record, and what is said");
 
 static int wrong(const char *what, mandrozsi_reply got)
 {
-    printf("%s: answered %u, values %u %u %u\n", what, got.number, got.first, got.second, got.third);
+    const mandrozsi_said *s = &got.said;
+    printf("%s: answered %" PRIu64 ", values %" PRIu64 " %" PRIu64 " %" PRIu64 " %" PRIu64 "\n", what, s->number, s->first, s->second, s->third,
+           s->fourth);
     return 1;
 }
 
@@ -22,53 +26,53 @@ int main(void)
     static const uint16_t expected[8] = {7, 7, 7, 2, 7, 2, 7, 2};
 
     mandrozsi_reply r = mandrozsi_open(8, board, 8);
-    if (r.number != MANDROZSI_DONE || r.drive.capacity != 8 || r.drive.position != 1)
+    if (r.said.number != MANDROZSI_DONE || r.drive.capacity != 8 || r.drive.position != 1 || r.drive.round != 0)
         return wrong("open", r);
     mandrozsi_drive drive = r.drive;
 
     r = mandrozsi_add(drive, board, 8, 7, 5);
-    if (r.number != MANDROZSI_DONE || r.first != 3)
+    if (r.said.number != MANDROZSI_DONE || r.said.first != 3)
         return wrong("add 7", r);
     r = mandrozsi_add(drive, board, 8, 2, 4);
-    if (r.number != MANDROZSI_ROOM || r.first != 3)
+    if (r.said.number != MANDROZSI_ROOM || r.said.first != 3)
         return wrong("add 2 with too large a weight", r);
-    r = mandrozsi_add(drive, board, 8, 2, r.first);
-    if (r.number != MANDROZSI_DONE || r.first != 0)
+    r = mandrozsi_add(drive, board, 8, 2, (uint16_t)r.said.first);
+    if (r.said.number != MANDROZSI_DONE || r.said.first != 0)
         return wrong("add 2", r);
 
     r = mandrozsi_report(drive, board, 8, 7);
-    if (r.number != MANDROZSI_DONE || r.first != 5 || r.second != 2 || r.third != 2)
+    if (r.said.number != MANDROZSI_DONE || r.said.first != 5 || r.said.second != 2 || r.said.third != 2)
         return wrong("report", r);
 
     printf("round:");
     for (size_t i = 0; i < 8; i++) {
         r = mandrozsi_slot(drive, board, 8);
-        if (r.number != MANDROZSI_DONE || r.first != expected[i])
+        if (r.said.number != MANDROZSI_DONE || r.said.first != expected[i] || r.said.fourth != 0)
             return wrong("slot", r);
         drive = r.drive;
-        printf(" %u", r.first);
+        printf(" %" PRIu64, r.said.first);
     }
     printf("\n");
-    if (drive.position != 1)
+    if (drive.position != 1 || drive.round != 1)
         return wrong("the round's end", r);
 
     r = mandrozsi_round(drive, board, 8, names, 8);
-    if (r.number != MANDROZSI_DONE || memcmp(names, expected, sizeof names) != 0)
+    if (r.said.number != MANDROZSI_DONE || memcmp(names, expected, sizeof names) != 0)
         return wrong("round", r);
 
     r = mandrozsi_save(drive, board, 8, sheet, sizeof sheet);
-    if (r.number != MANDROZSI_DONE || r.first != sizeof sheet)
+    if (r.said.number != MANDROZSI_DONE || r.said.first != sizeof sheet)
         return wrong("save", r);
     r = mandrozsi_read(sheet, sizeof sheet, again, 8);
-    if (r.number != MANDROZSI_DONE || r.drive.capacity != 8 || memcmp(board, again, sizeof board) != 0)
+    if (r.said.number != MANDROZSI_DONE || r.drive.capacity != 8 || memcmp(board, again, sizeof board) != 0)
         return wrong("read", r);
     sheet[4] ^= 1;
     r = mandrozsi_read(sheet, sizeof sheet, again, 8);
-    if (r.number != MANDROZSI_BLOCK || r.drive.capacity != 0)
+    if (r.said.number != MANDROZSI_BLOCK || r.drive.capacity != 0)
         return wrong("read of a damaged sheet", r);
 
     r = mandrozsi_remove(drive, board, 8, 7);
-    if (r.number != MANDROZSI_DONE || r.first != 5)
+    if (r.said.number != MANDROZSI_DONE || r.said.first != 5)
         return wrong("remove", r);
     printf("saved, read back, removed: ok\n");
     return 0;

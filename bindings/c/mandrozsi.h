@@ -21,19 +21,28 @@ extern "C" {
 #define MANDROZSI_BLOCK_BYTES 512
 #define MANDROZSI_LEAVES_PER_BLOCK 253
 
-/* The drive record: the capacity C, and the position p, 1 to 2^k - 1, where C has k binary digits. A round starts at p = 1. */
+/* The drive record: the capacity C; the position p, 1 to 2^k - 1, where C has k binary digits; and the number of the round that the slot at
+ * p belongs to, 0 at open and read, one more each time p returns to 1, and 0 again after the largest. A round starts at p = 1. Only slot,
+ * open and read change a record. */
 typedef struct mandrozsi_drive {
     uint16_t capacity;
     uint16_t position;
+    uint64_t round;
 } mandrozsi_drive;
 
-/* What a function answers: the record, the number (0 for done), and the values in the order named below; a value that it does not have is 0. */
+/* What a call says: the number (0 for done), and the values in the order named below; a value that it does not have is 0. */
+typedef struct mandrozsi_said {
+    uint64_t number;
+    uint64_t first;
+    uint64_t second;
+    uint64_t third;
+    uint64_t fourth;
+} mandrozsi_said;
+
+/* What a function gives back: the record, and what the call says. */
 typedef struct mandrozsi_reply {
     mandrozsi_drive drive;
-    uint16_t number;
-    uint16_t first;
-    uint16_t second;
-    uint16_t third;
+    mandrozsi_said said;
 } mandrozsi_reply;
 
 /* The numbers of an answer. */
@@ -53,7 +62,7 @@ enum mandrozsi_number {
     MANDROZSI_BLOCK = 12     /* a sheet breaks its layout */
 };
 
-/* Makes the first `capacity` entries idle. Done: a record at p = 1.
+/* Makes the first `capacity` entries idle. Done: a record at p = 1, of round 0.
  * Refused: 1, 2. */
 mandrozsi_reply mandrozsi_open(uint16_t capacity, uint16_t *board, size_t entries);
 
@@ -65,7 +74,8 @@ mandrozsi_reply mandrozsi_add(mandrozsi_drive drive, uint16_t *board, size_t ent
  * Refused: 1 to 6, 9. */
 mandrozsi_reply mandrozsi_remove(mandrozsi_drive drive, uint16_t *board, size_t entries, uint16_t name);
 
-/* Serves the slot at p, on any board. Done: first = the name, second = the leaf, third = the terms passed over; the record has moved on.
+/* Serves the slot at p, on any board. Done: first = the name, second = the leaf, third = the terms passed over, fourth = the number of the
+ * round that the slot belongs to; the record has moved on.
  * Refused: 1 to 3. */
 mandrozsi_reply mandrozsi_slot(mandrozsi_drive drive, const uint16_t *board, size_t entries);
 
@@ -82,7 +92,7 @@ mandrozsi_reply mandrozsi_report(mandrozsi_drive drive, const uint16_t *board, s
  * Refused: 1 to 5, 11. */
 mandrozsi_reply mandrozsi_save(mandrozsi_drive drive, const uint16_t *board, size_t entries, uint8_t *output, size_t length);
 
-/* Sets the leaves of a board to those of a sheet. Done: a record at p = 1.
+/* Sets the leaves of a board to those of a sheet. Done: a record at p = 1, of round 0.
  * Refused, looked for in this order: 12 (under 512 bytes), 1, 2, 12 (anything else of the layout), 5. */
 mandrozsi_reply mandrozsi_read(const uint8_t *sheet, size_t length, uint16_t *board, size_t entries);
 

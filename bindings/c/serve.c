@@ -20,13 +20,12 @@ enum { ROOM = 65536, MARKED = 64, MARK = 0xA5 };
 
 enum { OPEN, ADD, REMOVE, SLOT, ROUND, REPORT, SAVE, READ };
 
-/* What is called, with what; then the bytes of the two slices, 0 for the second where the call has none. */
+/* What is called, with what; the bytes of the two slices, 0 for the second where the call has none; and the record. */
 struct call {
-    uint16_t number, name, weight;
-    mandrozsi_drive drive;
-    uint16_t board_bytes, other_bytes;
+    uint16_t number, name, weight, board_bytes, other_bytes, capacity, position, none;
+    uint64_t round;
 };
-_Static_assert(sizeof(struct call) == 14, "a call is seven 16-bit numbers");
+_Static_assert(sizeof(struct call) == 24, "a call is eight 16-bit numbers and one of 64 bits");
 
 static _Noreturn void end(const char *why)
 {
@@ -67,14 +66,15 @@ static void give_back(const uint8_t *slice, size_t bytes)
 static mandrozsi_reply make(const struct call *c, uint16_t *board, uint8_t *other)
 {
     size_t entries = c->board_bytes / sizeof *board, length = c->other_bytes;
+    mandrozsi_drive drive = {c->capacity, c->position, c->round};
     switch (c->number) {
-    case OPEN: return mandrozsi_open(c->drive.capacity, board, entries);
-    case ADD: return mandrozsi_add(c->drive, board, entries, c->name, c->weight);
-    case REMOVE: return mandrozsi_remove(c->drive, board, entries, c->name);
-    case SLOT: return mandrozsi_slot(c->drive, board, entries);
-    case ROUND: return mandrozsi_round(c->drive, board, entries, (uint16_t *)(void *)other, length / sizeof(uint16_t));
-    case REPORT: return mandrozsi_report(c->drive, board, entries, c->name);
-    case SAVE: return mandrozsi_save(c->drive, board, entries, other, length);
+    case OPEN: return mandrozsi_open(c->capacity, board, entries);
+    case ADD: return mandrozsi_add(drive, board, entries, c->name, c->weight);
+    case REMOVE: return mandrozsi_remove(drive, board, entries, c->name);
+    case SLOT: return mandrozsi_slot(drive, board, entries);
+    case ROUND: return mandrozsi_round(drive, board, entries, (uint16_t *)(void *)other, length / sizeof(uint16_t));
+    case REPORT: return mandrozsi_report(drive, board, entries, c->name);
+    case SAVE: return mandrozsi_save(drive, board, entries, other, length);
     case READ: return mandrozsi_read(other, length, board, entries);
     }
     end("there is no such call");

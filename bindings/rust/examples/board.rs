@@ -13,7 +13,7 @@ fn main() -> Result<(), mandrozsi::Refusal> {
         println!("stream {name} of weight {weight}: {} leaves idle", drive.add(&mut board, name, weight)?);
     }
     println!("stream 3: {:?}", drive.report(&board, 3)?);
-    print!("one round:");
+    print!("round {}:", drive.round);
     for _ in 0..16 {
         print!(" {}", drive.slot(&board)?.name);
     }
@@ -23,8 +23,9 @@ fn main() -> Result<(), mandrozsi::Refusal> {
     let bytes = drive.save(&board, &mut sheet)?;
     let mut again = [0u16; 16];
     let read = Drive::read(&sheet[..bytes], &mut again)?;
-    assert_eq!((read, again), (drive, board));
-    println!("saved in {bytes} bytes and read back");
+    // A board that is read starts from round 0 again.
+    assert_eq!((read, again), (Drive { round: 0, ..drive }, board));
+    println!("saved in {bytes} bytes at round {} and read back", drive.round);
     Ok(())
 }
 

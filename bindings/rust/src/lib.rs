@@ -19,14 +19,16 @@ use std::fmt;
 
 pub mod raw;
 
-use raw::Reply;
+use raw::{Reply, Said};
 
-/// The drive record: the capacity C, and the position p of the next slot, 1 to 2^k - 1, where C has k binary digits. A round starts at p = 1.
+/// The drive record: the capacity C; the position p of the next slot, 1 to 2^k - 1, where C has k binary digits; and the number of the round
+/// that slot belongs to, 0 at open and read, one more each time p returns to 1, and 0 again after the largest. A round starts at p = 1.
 #[repr(C)]
 #[derive(Clone, Copy, Debug, Default, PartialEq, Eq, Hash)]
 pub struct Drive {
     pub capacity: u16,
     pub position: u16,
+    pub round: u64,
 }
 
 /// Why a call is refused. `number` is what document 01 and the C header call it.
@@ -132,12 +134,13 @@ impl fmt::Display for Refusal {
 
 impl std::error::Error for Refusal {}
 
-/// One slot: the stream served (0: none), the leaf it was found at, and the terms of the sequence passed over, 0 or 1.
+/// One slot: the stream served (0: none), the leaf it was found at, the terms of the sequence passed over, 0 or 1, and the number of its round.
 #[derive(Clone, Copy, Debug, PartialEq, Eq)]
 pub struct Slot {
     pub name: u16,
     pub leaf: u16,
     pub passed: u16,
+    pub round: u64,
 }
 
 /// A report: a stream's weight, its number of pieces, and its spacing, the largest number of slots from one serve to the next over two rounds of
@@ -152,11 +155,16 @@ pub struct Stream {
 impl Reply {
     /// The reply itself where the call was done, or why it was refused.
     pub fn done(self) -> Result<Reply, Refusal> {
-        match self.number {
+        match self.said.number {
             0 => Ok(self),
-            number => Err(Refusal::from_number(number, self.first).expect("the library's numbers are 0 to 12")),
+            number => Err(Refusal::from_number(short(number), short(self.said.first)).expect("the library's numbers are 0 to 12")),
         }
     }
+}
+
+/// A number, a name, a leaf or a count of leaves: the library's are below 65,536.
+fn short(value: u64) -> u16 {
+    value as u16
 }
 
 impl Drive {
@@ -177,26 +185,25 @@ impl Drive {
     /// Admits a stream: the idle leaves left. Refused: 1 to 8, 10 with the idle leaves there are.
     pub fn add(self, board: &mut [u16], name: u16, weight: u16) -> Result<u16, Refusal> {
         let reply = unsafe { raw::mandrozsi_add(self, board.as_mut_ptr(), board.len(), name, weight) };
-        Ok(reply.done()?.first)
+        Ok(short(reply.done()?.said.first))
     }
 
     /// Removes a stream and tidies the board: the idle leaves left. Refused: 1 to 6, 9.
     pub fn remove(self, board: &mut [u16], name: u16) -> Result<u16, Refusal> {
         let reply = unsafe { raw::mandrozsi_remove(self, board.as_mut_ptr(), board.len(), name) };
-        Ok(reply.done()?.first)
+        Ok(short(reply.done()?.said.first))
     }
 
     /// Serves the slot at the position, and moves the record on. Any board will do, good or not. Refused: 1 to 3.
     pub fn slot(&mut self, board: &[u16]) -> Result<Slot, Refusal> {
         let reply = unsafe { raw::mandrozsi_slot(*self, board.as_ptr(), board.len()) };
-        let Reply {
-            drive, first, second, third, ..
-        } = reply.done()?;
+        let Reply { drive, said } = reply.done()?;
         *self = drive;
         Ok(Slot {
-            name: first,
-            leaf: second,
-            passed: third,
+            name: short(said.first),
+            leaf: short(said.second),
+            passed: short(said.third),
+            round: said.fourth,
         })
     }
 
@@ -208,18 +215,19 @@ impl Drive {
 
     /// Reports on a stream. Refused: 1 to 3, 5, 6, 9.
     pub fn report(self, board: &[u16], name: u16) -> Result<Stream, Refusal> {
-        let reply = unsafe { raw::mandrozsi_report(self, board.as_ptr(), board.len(), name) }.done()?;
+        let reply = unsafe { raw::mandrozsi_report(self, board.as_ptr(), board.len(), name) };
+        let Said { first, second, third, .. } = reply.done()?.said;
         Ok(Stream {
-            weight: reply.first,
-            pieces: reply.second,
-            spacing: reply.third,
+            weight: short(first),
+            pieces: short(second),
+            spacing: short(third),
         })
     }
 
     /// Writes the board's sheet to the start of the output and nothing beyond it: the bytes written. Refused: 1 to 5, 11.
     pub fn save(self, board: &[u16], output: &mut [u8]) -> Result<usize, Refusal> {
         let reply = unsafe { raw::mandrozsi_save(self, board.as_ptr(), board.len(), output.as_mut_ptr(), output.len()) };
-        Ok(usize::from(reply.done()?.first))
+        Ok(reply.done()?.said.first as usize)
     }
 
     /// Sets the leaves of a board to those of a sheet: a record at the start of a round. Refused: 12 (under 512 bytes), 1, 2, 12, 5, in this order.

@@ -2,15 +2,23 @@
 //! call do not overlap.
 use crate::Drive;
 
-/// What every function answers: the record, the number (0 for done), and the values; a value that an answer does not have is 0.
+/// What a call says: the number (0 for done), and the values; a value that an answer does not have is 0.
+#[repr(C)]
+#[derive(Clone, Copy, Debug, PartialEq, Eq)]
+pub struct Said {
+    pub number: u64,
+    pub first: u64,
+    pub second: u64,
+    pub third: u64,
+    pub fourth: u64,
+}
+
+/// What a function gives back: the record, and what the call says.
 #[repr(C)]
 #[derive(Clone, Copy, Debug, PartialEq, Eq)]
 pub struct Reply {
     pub drive: Drive,
-    pub number: u16,
-    pub first: u16,
-    pub second: u16,
-    pub third: u16,
+    pub said: Said,
 }
 
 extern "C" {

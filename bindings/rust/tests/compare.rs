@@ -2,15 +2,15 @@
 #![cfg(any(linked, served))]
 mod boundary;
 
-use boundary::{drive, Boundary};
+use boundary::{drive, record, Boundary};
 use mandrozsi::{Drive, Refusal};
 use paper::trial::{compare, Calls};
-use paper::Answer;
+use paper::{at, Answer, Record};
 
 /// The safe types, with a result turned back into number and values.
 struct Safe;
 
-fn told<T>(before: (u16, u16), result: Result<T, Refusal>, done: impl FnOnce(T) -> ((u16, u16), [u16; 3])) -> Answer {
+fn told<T>(before: Record, result: Result<T, Refusal>, done: impl FnOnce(T) -> (Record, [u64; 4])) -> Answer {
     match result {
         Ok(value) => {
             let (record, values) = done(value);
@@ -19,42 +19,44 @@ fn told<T>(before: (u16, u16), result: Result<T, Refusal>, done: impl FnOnce(T) 
         Err(why) => Answer {
             record: before,
             number: why.number(),
-            values: [why.value(), 0, 0],
+            values: [why.value().into(), 0, 0, 0],
         },
     }
 }
 
 impl Calls for Safe {
     fn open(&self, c: u16, board: &mut [u16]) -> Answer {
-        told((0, 0), Drive::open(c, board), |d| ((d.capacity, d.position), [0; 3]))
+        told(at(0, 0), Drive::open(c, board), |d| (record(d), [0; 4]))
     }
-    fn add(&self, r: (u16, u16), board: &mut [u16], name: u16, weight: u16) -> Answer {
-        told(r, drive(r).add(board, name, weight), |idle| (r, [idle, 0, 0]))
+    fn add(&self, r: Record, board: &mut [u16], name: u16, weight: u16) -> Answer {
+        told(r, drive(r).add(board, name, weight), |idle| (r, [idle.into(), 0, 0, 0]))
     }
-    fn remove(&self, r: (u16, u16), board: &mut [u16], name: u16) -> Answer {
-        told(r, drive(r).remove(board, name), |idle| (r, [idle, 0, 0]))
+    fn remove(&self, r: Record, board: &mut [u16], name: u16) -> Answer {
+        told(r, drive(r).remove(board, name), |idle| (r, [idle.into(), 0, 0, 0]))
     }
-    fn slot(&self, r: (u16, u16), board: &[u16]) -> Answer {
+    fn slot(&self, r: Record, board: &[u16]) -> Answer {
         let mut d = drive(r);
         let result = d.slot(board);
-        told((d.capacity, d.position), result, |slot| {
-            ((d.capacity, d.position), [slot.name, slot.leaf, slot.passed])
+        told(record(d), result, |slot| {
+            (record(d), [slot.name.into(), slot.leaf.into(), slot.passed.into(), slot.round])
         })
     }
-    fn round(&self, r: (u16, u16), board: &[u16], output: &mut [u16]) -> Answer {
-        told(r, drive(r).round(board, output), |()| (r, [0; 3]))
+    fn round(&self, r: Record, board: &[u16], output: &mut [u16]) -> Answer {
+        told(r, drive(r).round(board, output), |()| (r, [0; 4]))
     }
-    fn report(&self, r: (u16, u16), board: &[u16], name: u16) -> Answer {
-        told(r, drive(r).report(board, name), |s| (r, [s.weight, s.pieces, s.spacing]))
+    fn report(&self, r: Record, board: &[u16], name: u16) -> Answer {
+        told(r, drive(r).report(board, name), |s| {
+            (r, [s.weight.into(), s.pieces.into(), s.spacing.into(), 0])
+        })
     }
-    fn save(&self, r: (u16, u16), board: &[u16], output: &mut [u8]) -> Answer {
+    fn save(&self, r: Record, board: &[u16], output: &mut [u8]) -> Answer {
         told(r, drive(r).save(board, output), |bytes| {
             assert_eq!(bytes, drive(r).sheet_bytes());
-            (r, [bytes as u16, 0, 0])
+            (r, [bytes as u64, 0, 0, 0])
         })
     }
     fn read(&self, sheet: &[u8], board: &mut [u16]) -> Answer {
-        told((0, 0), Drive::read(sheet, board), |d| ((d.capacity, d.position), [0; 3]))
+        told(at(0, 0), Drive::read(sheet, board), |d| (record(d), [0; 4]))
     }
 }
 

@@ -1,5 +1,5 @@
 //! The Rust types against the C header: the header is read, and its structs, numbers and functions are held to what this crate has.
-use mandrozsi::raw::Reply;
+use mandrozsi::raw::{Reply, Said};
 use mandrozsi::{Drive, Refusal};
 use std::mem::{align_of, offset_of, size_of};
 
@@ -16,8 +16,9 @@ fn code() -> String {
     out + rest
 }
 
-/// The fields of a struct of the header with their offsets, and its size: C's layout of members of 16-bit numbers.
-fn layout(code: &str, name: &str) -> (Vec<(String, usize)>, usize) {
+/// The fields of a struct of the header with their offsets, its size and its alignment: C's layout, each member at the next multiple of its own
+/// alignment, and the size a multiple of the largest.
+fn layout(code: &str, name: &str) -> (Vec<(String, usize)>, usize, usize) {
     let body = code
         .split_once(&format!("typedef struct {name} {{"))
         .expect("the struct is there")
@@ -25,13 +26,23 @@ fn layout(code: &str, name: &str) -> (Vec<(String, usize)>, usize) {
         .split_once('}')
         .unwrap()
         .0;
-    let (mut fields, mut at) = (Vec::new(), 0);
+    let (mut fields, mut at, mut largest) = (Vec::new(), 0usize, 1);
     for member in body.split(';').map(str::trim).filter(|m| !m.is_empty()) {
         let (kind, field) = member.split_once(' ').unwrap();
+        let (size, alignment) = match kind {
+            "uint16_t" => (2, 2),
+            "uint64_t" => (8, 8),
+            _ => {
+                let (_, size, alignment) = layout(code, kind);
+                (size, alignment)
+            }
+        };
+        at = at.next_multiple_of(alignment);
         fields.push((field.to_string(), at));
-        at += if kind == "uint16_t" { 2 } else { layout(code, kind).1 };
+        at += size;
+        largest = largest.max(alignment);
     }
-    (fields, at)
+    (fields, at.next_multiple_of(largest), largest)
 }
 
 fn named(pairs: &[(&str, usize)]) -> Vec<(String, usize)> {
@@ -41,17 +52,23 @@ fn named(pairs: &[(&str, usize)]) -> Vec<(String, usize)> {
 #[test]
 fn structs() {
     let code = code();
-    let drive = [("capacity", offset_of!(Drive, capacity)), ("position", offset_of!(Drive, position))];
-    assert_eq!(layout(&code, "mandrozsi_drive"), (named(&drive), size_of::<Drive>()));
-    let reply = [
-        ("drive", offset_of!(Reply, drive)),
-        ("number", offset_of!(Reply, number)),
-        ("first", offset_of!(Reply, first)),
-        ("second", offset_of!(Reply, second)),
-        ("third", offset_of!(Reply, third)),
+    let drive = [
+        ("capacity", offset_of!(Drive, capacity)),
+        ("position", offset_of!(Drive, position)),
+        ("round", offset_of!(Drive, round)),
     ];
-    assert_eq!(layout(&code, "mandrozsi_reply"), (named(&reply), size_of::<Reply>()));
-    assert_eq!((align_of::<Drive>(), align_of::<Reply>()), (2, 2));
+    assert_eq!(layout(&code, "mandrozsi_drive"), (named(&drive), size_of::<Drive>(), align_of::<Drive>()));
+    let said = [
+        ("number", offset_of!(Said, number)),
+        ("first", offset_of!(Said, first)),
+        ("second", offset_of!(Said, second)),
+        ("third", offset_of!(Said, third)),
+        ("fourth", offset_of!(Said, fourth)),
+    ];
+    assert_eq!(layout(&code, "mandrozsi_said"), (named(&said), size_of::<Said>(), align_of::<Said>()));
+    let reply = [("drive", offset_of!(Reply, drive)), ("said", offset_of!(Reply, said))];
+    assert_eq!(layout(&code, "mandrozsi_reply"), (named(&reply), size_of::<Reply>(), align_of::<Reply>()));
+    assert_eq!((size_of::<Drive>(), size_of::<Said>(), size_of::<Reply>()), (16, 40, 56));
 }
 
 #[test]

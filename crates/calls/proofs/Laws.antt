@@ -177,7 +177,7 @@ module _ (d : Drive) (B : List ℕ) where
   pub slot-unique : {r s : Served} → Serves d B r → Serves d B s → r ≡ s
   slot-unique p q = unique (p .0) (q .0)
 
-  pub slot-refused : {r : Served} → Serves d B r → Refuses (servingAnswer (r .answer)) → (r .drive ≡ d) × (servingAnswer (r .answer) .values ≡ 0 ∷ 0 ∷ 0 ∷ [])
+  pub slot-refused : {r : Served} → Serves d B r → Refuses (servingAnswer (r .answer)) → (r .drive ≡ d) × (servingAnswer (r .answer) .values ≡ 0 ∷ 0 ∷ 0 ∷ 0 ∷ [])
   slot-refused p h = rw (p .0, refusal (slotCheck d B) (refuses (p .1) h) .1) (refl, refl)
 
   pub slot-answers : among (servedAnswer d B .number) slotMay ≡ true

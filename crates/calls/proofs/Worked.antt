@@ -36,7 +36,7 @@ data Act : Type 0 where
   looks : Act
 
 leafOf : Serving → ℕ
-leafOf (Slot name leaf passed) = leaf
+leafOf (Slot name leaf passed round) = leaf
 leafOf (Refused r) = numberOf r
 
 -- n slots in a row: the record after them, and the leaves

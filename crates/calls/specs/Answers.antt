@@ -62,10 +62,10 @@ changeAnswer (change.Done idle) = record { number = 0; values = idle ∷ [] }
 changeAnswer (change.Room idle) = record { number = numberOf Room; values = beside (numberOf Room) idle ∷ [] }
 changeAnswer (change.Refused r) = record { number = numberOf r; values = 0 ∷ [] }
 
--- Slot: the name, the leaf, the terms passed over.
+-- Slot: the name, the leaf, the terms passed over, the number of its round.
 abbrev pub servingAnswer : Serving → Answer
-servingAnswer (serving.Slot name leaf passed) = record { number = 0; values = name ∷ leaf ∷ passed ∷ [] }
-servingAnswer (serving.Refused r) = record { number = numberOf r; values = 0 ∷ 0 ∷ 0 ∷ [] }
+servingAnswer (serving.Slot name leaf passed round) = record { number = 0; values = name ∷ leaf ∷ passed ∷ round ∷ [] }
+servingAnswer (serving.Refused r) = record { number = numberOf r; values = 0 ∷ 0 ∷ 0 ∷ 0 ∷ [] }
 
 -- Report: weight, number of pieces, spacing.
 abbrev pub reportAnswer : Report → Answer

@@ -1,5 +1,5 @@
 -- What each call returns and what it leaves in each slice that it was lent, for every input: document 01, "Calls and refusal numbers".
--- A refused call gives back the record that it was given (open, one with C and p zero) and leaves every slice as it was.
+-- A refused call gives back the record that it was given (open, one of zeros) and leaves every slice as it was.
 -- Assumes nothing.
 use mathlib.Core.Bool.{cond}
 use mathlib.Core.List.{List, [], _∷_, _++_, map}
@@ -57,9 +57,9 @@ abbrev pub admittedBy : Check → ℕ → ℕ → Change
 admittedBy Clear left idle = change.Done left
 admittedBy (Refused r) left idle = refusedFor r idle
 
-abbrev pub servingBy : Check → ℕ → ℕ → ℕ → Serving
-servingBy Clear name leaf passed = serving.Slot name leaf passed
-servingBy (Refused r) name leaf passed = serving.Refused r
+abbrev pub servingBy : Check → ℕ → ℕ → ℕ → ℕ → Serving
+servingBy Clear name leaf passed round = serving.Slot name leaf passed round
+servingBy (Refused r) name leaf passed round = serving.Refused r
 
 abbrev pub roundingBy : Check → Rounding
 roundingBy Clear = rounding.Done
@@ -69,7 +69,7 @@ abbrev pub reportBy : Check → ℕ → ℕ → ℕ → Report
 reportBy Clear weight pieces spacing = report.Stream weight pieces spacing
 reportBy (Refused r) weight pieces spacing = report.Refused r
 
--- open: C leaves become idle, p = 1.
+-- open: C leaves become idle, p = 1, and the round number is 0.
 abbrev pub opened : ℕ → List ℕ → Opened
 opened C B = record { drive = ifClear (openCheck C B) (driveAt C 1) (driveAt 0 0); answer = openingBy (openCheck C B) }
 
@@ -119,7 +119,7 @@ removed d B x = let idle = removedIdle d B x in record { drive = d; answer = cha
 abbrev pub removedAnswer : Drive → List ℕ → ℕ → Answer
 removedAnswer d B x = let idle = removedIdle d B x in answered (removeCheck d B x) (idle ∷ [])
 
--- slot: the name, the leaf, the terms passed over; p moves on.
+-- slot: the name, the leaf, the terms passed over, and the number of the round that the slot belongs to, which is the record's before p moves on.
 abbrev pub servedLeaf : Drive → ℕ
 servedLeaf d = leafAt (d .capacity) (servedFrom (d .capacity) (d .position))
 
@@ -129,6 +129,9 @@ servedName d B = getD B (servedLeaf d) 0
 abbrev pub servedPassed : Drive → ℕ
 servedPassed d = passedFrom (d .capacity) (d .position)
 
+abbrev pub servedRound : Drive → ℕ
+servedRound d = d .round
+
 abbrev pub movedOn : Drive → Drive
 movedOn d = movedTo d (nextFrom (d .capacity) (d .position))
 
@@ -137,11 +140,12 @@ served d B =
     let name = servedName d B in
     let leaf = servedLeaf d in
     let passed = servedPassed d in
+    let round = servedRound d in
     let next = movedOn d in
-    record { drive = ifClear (slotCheck d B) next d; answer = servingBy (slotCheck d B) name leaf passed }
+    record { drive = ifClear (slotCheck d B) next d; answer = servingBy (slotCheck d B) name leaf passed round }
 
 abbrev pub servedAnswer : Drive → List ℕ → Answer
-servedAnswer d B = answered (slotCheck d B) (servedName d B ∷ servedLeaf d ∷ servedPassed d ∷ [])
+servedAnswer d B = answered (slotCheck d B) (servedName d B ∷ servedLeaf d ∷ servedPassed d ∷ servedRound d ∷ [])
 
 -- round: the C names of a full round from p = 1, at the start of the output; p is unchanged.
 unfoldable pub slotNames : ℕ → List ℕ → ℕ → List ℕ

@@ -4,7 +4,7 @@ ghost use mathlib.Core.List.{_++_};
 ghost use Prim.Native.Nat.{_≤_};
 ghost use lib.ListN.{length, drop};
 ghost use Rattle.sequences.specs.Board.{Position};
-ghost use Rattle.calls.specs.Records.{driveAt, movedTo};
+ghost use Rattle.calls.specs.Records.{driveAt, roundAfter, movedTo};
 ghost use Rattle.calls.specs.Refusals.{numberOf};
 ghost use Rattle.calls.specs.Results as results;
 ghost use Rattle.calls.specs.Promises as promises;
@@ -13,11 +13,12 @@ use pieces::Admission;
 pub mod checks;
 pub mod spacing;
 
-// The drive record: the capacity C and the position p. Its type owns the limits and the calls.
+// The drive record: the capacity C, the position p, and the number of the round that the slot at p belongs to. Its type owns the limits and the calls.
 #[repr(C)]
 pub struct Drive {
     pub capacity: u16,
     pub position: u16,
+    pub round: u64,
 }
 
 // The refusals, by the names of document 01's table, in the order of its numbers.
@@ -89,7 +90,12 @@ pub struct Changed {
 
 // The answer of slot.
 pub enum Serving {
-    Slot { name: u16, leaf: u16, passed: u16 },
+    Slot {
+        name: u16,
+        leaf: u16,
+        passed: u16,
+        round: u64,
+    },
     Refused(Refusal),
 }
 
@@ -131,17 +137,27 @@ impl Drive {
     // How many leaves a block of a sheet has.
     pub const LEAVES_PER_BLOCK: usize = 253;
 
-    // The one place that makes a record.
+    // The largest number of a round.
+    pub const LAST_ROUND: u64 = 18446744073709551615;
+
+    // The one place that makes a record: rounds are counted from 0.
     pub fn new(capacity: u16, position: u16) -> Drive
         ensures { λ r. ⌜ r ≡ driveAt capacity position ⌝ }
     {
-        Drive { capacity, position }
+        Drive {
+            capacity,
+            position,
+            round: 0,
+        }
     }
 
-    // The one place that moves a record.
+    // The one place that moves a record: a round more where the position returns to 1.
     fn moved(mut self, position: u16) -> Drive
         ensures { λ r. ⌜ r ≡ movedTo self position ⌝ }
     {
+        if position == 1 {
+            self.round = next_round(self.round);
+        }
         self.position = position;
         self
     }
@@ -231,12 +247,14 @@ impl Drive {
             Check::Clear => {
                 let s = sequences::pick(self.capacity as usize, self.position as usize);
                 let leaf = s.leaf;
+                let next = self.moved(s.next as u16);
                 Served {
-                    drive: self.moved(s.next as u16),
+                    drive: next,
                     answer: Serving::Slot {
                         name: board[leaf],
                         leaf: leaf as u16,
                         passed: s.passed as u16,
+                        round: self.round,
                     },
                 }
             }
@@ -286,6 +304,16 @@ impl Drive {
             }
         }
     }
+}
+
+// The number of the round after this one: 0 after the largest.
+fn next_round(number: u64) -> u64
+    ensures { λ r. ⌜ r ≡ roundAfter number ⌝ }
+{
+    if number == Drive::LAST_ROUND {
+        return 0;
+    }
+    number + 1
 }
 
 // Makes the first c entries idle.

@@ -1,38 +1,40 @@
 -- The demands, each by its name: demand 1, and the board and the slot order of demand 2, for every call and every input; demand 3 for every history from an
 -- opened board. What they ask of save and read stands in `sheets`, proofs/Laws.
 -- Assumes nothing.
-use mathlib.Core.Path.{_≡_, refl, sym, ap, ap₂, subst, _∙_}
+use mathlib.Core.Path.{_≡_, refl, sym, ap, subst, _∙_}
 use mathlib.Core.Bool.{true, cond}
 use mathlib.Core.List.{List, [], _∷_, _++_}
-use Prim.Native.Nat.{ℕ, zero, _+_, _-_, _*_, _≤_, _<_}
+use Prim.Native.Nat.{ℕ, zero, _+_, _-_, _*_, _/_, _%_, _^_, _≤_, _<_}
 use native.Mathlib.Omega.{arith}
 use lib.Count.{ones}
 use lib.Dec.{ltb}
-use lib.ListN.{length, replicate}
-use Rattle.sequences.specs.Serving.{afterSlots}
+use lib.ListN.{length, getD, replicate}
 use Rattle.sequences.specs.Scanning.{roundLeaves}
 use Rattle.sequences.specs.Board.{passedFrom, servedFrom, nextFrom}
-use Rattle.sequences.proofs.Laws.{passed-one, passed-clear, served-position, served-serves, leaf-literal, round-ends, round-literal}
+use Rattle.sequences.proofs.Laws.{passed-one, passed-clear, served-position, served-serves, leaf-literal, round-literal}
 use Rattle.pieces.specs.Board.{weight, number}
 use Rattle.pieces.specs.Placing.{placed}
 use Rattle.pieces.specs.Tidying.{removed}
 use Rattle.pieces.proofs.Laws.{pieces-ones}
 use Rattle.calls.specs.declared.Drive.{Drive}
 use Rattle.calls.specs.declared.Check.the-variants.{Clear}
-use Rattle.calls.specs.Records.{driveAt}
+use Rattle.calls.specs.Records.{driveAt, roundAfter}
 use Rattle.calls.specs.Refusals.{numberOf, firstOf, among, askedAdd, openMay, removeMay, slotMay, roundMay, reportMay, openCheck, addCheck, removeCheck, slotCheck, roundCheck, reportCheck}
 use Rattle.calls.specs.Answers.{beside}
 use Rattle.calls.specs.Results.{openedAnswer, slotNames, roundNames}
 use Rattle.calls.proofs.Laws.{clear-number, refusal, open-answers, add-answers, remove-answers, slot-answers, round-answers, report-answers, open-clear, slot-position}
-use Rattle.demands.specs.Histories.{Act, Add, Remove, Slot, Round, Report, State, Openable, does, says, opens, after, reach}
+use Rattle.demands.specs.Histories.{Act, Add, Remove, Slot, Round, Report, State, Openable, does, says, opens, after, reach, log}
 use Rattle.demands.specs.Refusing.{mayAnswer, lent, writes, refusedValues, otherChecks}
 use Rattle.demands.specs.Holdings.{isChange, held, heldOf, total}
 use Rattle.demands.specs.Rounds.{namesFrom, FullRound, InTurn, inARow, times, namesOn, Near, bound, demanded}
+use Rattle.demands.specs.Certificates.{certificates, ofSlot, slotsIn, Every, ToldRound}
 use Rattle.demands.proofs.Checks.{clash}
 use Rattle.demands.proofs.Answering.{beside-says, zeros-say, done-idle}
 use Rattle.demands.proofs.Valid.{Valid, slot-clear, clear-valid}
 use Rattle.demands.proofs.Reached.{Sound, after-one, opened-clear, always}
-use Rattle.demands.proofs.Rows.{full-names, moves, slots-full}
+use Rattle.demands.proofs.Rows.{full-names, slots-full}
+use Rattle.demands.proofs.Numbering.{moves}
+use Rattle.demands.proofs.Told.{full-number, full-over, number-counted, certificate-at, one-slot, full-told, told-full}
 use Rattle.demands.proofs.Standing.{never-damaged, midround, others-pass, room, room-told, room-asked, served-round, served-fair}
 
 -- ---- Demand 1
@@ -111,20 +113,33 @@ demand-2-order s rest clear full =
     let is : Valid s = clear-valid s (clear-number (slotCheck d B) clear) in
     full-names s rest is full ∙ ap (namesOn B) (round-literal C (is .at .some) (is .at .few))
 
--- It ends where the next round starts.
-pub demand-2-ends : (s : State) (rest : List Act) → says Slot s .number ≡ 0 → FullRound s rest → after s (Slot ∷ rest) .drive ≡ s .drive
+-- It ends where the next round starts, with the number one more, and 0 after the largest.
+pub demand-2-ends : (s : State) (rest : List Act) → says Slot s .number ≡ 0 → FullRound s rest
+    → after s (Slot ∷ rest) .drive ≡ record { capacity = s .drive .capacity; position = 1; round = roundAfter (s .drive .round) }
 demand-2-ends s rest clear full =
-    let d = s .drive in
-    let e = clear-number (slotCheck d (s .board)) clear in
-    let at = slot-position d (s .board) e in
-    let m = moves s (Slot ∷ rest) in
-    let back : afterSlots (d .capacity) (d .position) (d .capacity) ≡ d .position = rw (full .first) (round-ends (d .capacity) (at .some) (at .few)) in
-    ap₂ driveAt (m .0) (m .1 ∙ ap (afterSlots (d .capacity) (d .position)) (full .slots) ∙ back)
+    let at = clear-valid s (clear-number (slotCheck (s .drive) (s .board)) clear) .at in
+    full-over s rest (at .some) (at .few) full
 
 -- Round writes the same names.
 pub demand-2-round : (C : ℕ) (B : List ℕ) → zero < C → C ≤ 4095 → roundNames C B ≡ namesOn B (roundLeaves C)
 unfolding slotNames
 demand-2-round C B some few = ap (namesOn B) (round-literal C some (omega arith))
+
+-- ---- Request No. 6, for every input
+
+-- Every call but slot hands the record back as it came, refused or not.
+pub record-kept : (a : Act) (s : State) → (a ≡ Slot → ⊥) → does a s .drive ≡ s .drive
+record-kept (Add x w) s other = refl
+record-kept (Remove x) s other = refl
+record-kept Slot s other = absurd (other refl)
+record-kept (Round O) s other = refl
+record-kept (Report x) s other = refl
+
+-- The slots of a full round say one number, the record's at its first slot.
+pub round-one-number : (s : State) (rest : List Act) → says Slot s .number ≡ 0 → FullRound s rest → Every (λ k. k ≡ s .drive .round) (certificates (log s (Slot ∷ rest)))
+round-one-number s rest clear full =
+    let at = clear-valid s (clear-number (slotCheck (s .drive) (s .board)) clear) .at in
+    full-number s rest (at .some) (at .few) full
 
 -- ---- Demand 3, for every capacity and every slice that open takes and every list of acts from the opened board
 
@@ -230,3 +245,32 @@ module _ (C : ℕ) (B : List ℕ) (may : Openable C B) (acts : List Act) where
   pub demand-3-demanded : (rest : List Act) → FullRound (reach C B acts) rest → (x w i t : ℕ) → heldOf x (held C B acts) ≡ w → zero < w → i + t ≤ C
       → Near (C * times x (inARow i t (namesFrom (reach C B acts) rest))) (w * t) (demanded C w)
   demand-3-demanded rest full x w i t holds some within = let f = demand-3-fair rest full x w i t holds some within in omega arith
+
+  -- ---- Request No. 6, for the same histories
+
+  abbrev small : C < 4096
+  small = let f = may .few in omega arith
+
+  starts : opens C B .drive ≡ driveAt C 1
+  starts = rw (opened-clear C B may) refl
+
+  -- The record's number is how many full rounds have passed, modulo 2 ^ 64: C slots are served in each.
+  pub round-counted : reach C B acts .drive .round ≡ slotsIn (log (opens C B) acts) / C % 2 ^ 64
+  round-counted = number-counted C (may .some) small (opens C B) starts acts
+
+  -- Slot i, counted from 0, says how many full rounds have passed before it, and its leaf is leaf i % C of the round that G-3's two sequences give.
+  pub slot-certified : (i : ℕ) → i < slotsIn (log (opens C B) acts)
+      → ofSlot (certificates (log (opens C B) acts)) i ≡ record { round = i / C % 2 ^ 64; leaf = getD (roundLeaves C) (i % C) 0 }
+  slot-certified i h = rw (← round-literal C (may .some) small) (certificate-at C (may .some) small (opens C B) starts acts i h)
+
+  -- Two slots that say the same number and the same leaf, with fewer than 2 ^ 64 rounds between them, are the same slot.
+  pub certificate-once : (i j : ℕ) → i < slotsIn (log (opens C B) acts) → j < slotsIn (log (opens C B) acts)
+      → ofSlot (certificates (log (opens C B) acts)) i ≡ ofSlot (certificates (log (opens C B) acts)) j → Near (i / C) (j / C) (2 ^ 64) → i ≡ j
+  certificate-once = one-slot C (may .some) small (opens C B) starts acts
+
+  -- As long as fewer than 2 ^ 64 rounds have passed, the full rounds are those told by their number.
+  pub round-told : (rest : List Act) → slotsIn (log (opens C B) acts) / C < 2 ^ 64 → FullRound (reach C B acts) rest → ToldRound (opens C B) acts rest
+  round-told = full-told C (may .some) small (opens C B) starts acts
+
+  pub told-round : (rest : List Act) → ToldRound (opens C B) acts rest → FullRound (reach C B acts) rest
+  told-round rest = told-full C (may .some) small (opens C B) starts acts rest demand-3-slot

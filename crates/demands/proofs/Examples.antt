@@ -1,4 +1,5 @@
--- One history, computed: what demand 3 speaks of happens, with these numbers. C = 11, on a longer slice.
+-- One history, computed: what demand 3 speaks of happens, with these numbers. C = 11, on a longer slice. And two records given by hand, whose number is the
+-- largest.
 -- Assumes nothing.
 use mathlib.Core.Path.{_≡_, refl}
 use mathlib.Core.Bool.{Bool, true, _&&_}
@@ -15,9 +16,10 @@ use Rattle.pieces.specs.Placing.{fill, first, fit, spot, put, place}
 use Rattle.pieces.specs.Tidying.{copy, move, twin, join, pair, step, tidy, clear}
 use Rattle.calls.specs.Refusals.{openCheck, addCheck, removeCheck, slotCheck, reportCheck}
 use Rattle.calls.specs.Results.{idleBoard}
-use Rattle.demands.specs.Histories.{Act, Add, Remove, Slot, Report, Openable, opens, after, reach, log}
+use Rattle.demands.specs.Histories.{Act, Add, Remove, Slot, Report, State, Openable, opens, after, reach, log}
 use Rattle.demands.specs.Holdings.{without, heldFrom, held}
 use Rattle.demands.specs.Rounds.{names, namesFrom, FullRound, inARow, times, bound}
+use Rattle.demands.specs.Certificates.{certificates}
 
 -- a and b differ by less than d, as a test
 abbrev near : ℕ → ℕ → ℕ → Bool
@@ -58,3 +60,26 @@ history :
     × (near (11 * 4) (8 * 7) (bound 11 8) ≡ true)
 unfolding log after names heldFrom without openCheck addCheck removeCheck slotCheck reportCheck idleBoard uniform whole pieces weight nth single sound sum fill first fit spot put place copy move twin join pair step tidy clear leafAt nextFrom countList ones onesIn
 history = (refl, refl, refl, refl, record { first = refl; slots = refl }, record { first = refl; slots = refl }, refl, refl, refl, refl)
+
+-- Seven slots of C = 3 with an add refused for MIDROUND among them: each says its round and its leaf, and the record then stands within round 2.
+numbers :
+    (certificates (log (opens 3 board) (Slot ∷ Slot ∷ Add 5 1 ∷ replicate 5 Slot))
+    ≡ record { round = 0; leaf = 0 } ∷ record { round = 0; leaf = 2 } ∷ record { round = 0; leaf = 1 }
+    ∷ record { round = 1; leaf = 0 } ∷ record { round = 1; leaf = 2 } ∷ record { round = 1; leaf = 1 }
+    ∷ record { round = 2; leaf = 0 } ∷ [])
+    × (reach 3 board (replicate 7 Slot) .drive ≡ record { capacity = 3; position = 2; round = 2 })
+unfolding log after certificates openCheck addCheck slotCheck idleBoard uniform whole pieces weight nth single sound sum leafAt nextFrom
+numbers = (refl, refl)
+
+-- a record by hand, at its last position, with the largest number
+abbrev last : ℕ → ℕ → State
+last C p = record { drive = record { capacity = C; position = p; round = 18446744073709551615 }; board = 7 ∷ 8 ∷ [] }
+
+-- C = 1: each slot is a round. C = 2: leaf 1 ends the round of the largest number, and leaf 0 and then leaf 1 are those of round 0.
+wraps :
+    (certificates (log (last 1 1) (Slot ∷ Slot ∷ Slot ∷ []))
+    ≡ record { round = 18446744073709551615; leaf = 0 } ∷ record { round = 0; leaf = 0 } ∷ record { round = 1; leaf = 0 } ∷ [])
+    × (certificates (log (last 2 3) (Slot ∷ Slot ∷ Slot ∷ Slot ∷ []))
+    ≡ record { round = 18446744073709551615; leaf = 1 } ∷ record { round = 0; leaf = 0 } ∷ record { round = 0; leaf = 1 } ∷ record { round = 1; leaf = 0 } ∷ [])
+unfolding log certificates slotCheck leafAt nextFrom
+wraps = (refl, refl)

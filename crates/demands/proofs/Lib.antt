@@ -6,6 +6,8 @@ mod Answering
 mod Valid
 mod Reached
 mod Rows
+mod Numbering
+mod Told
 mod Standing
 mod Promised
 pub mod Demands

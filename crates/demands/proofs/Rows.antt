@@ -10,11 +10,7 @@ use lib.ListN.{length, getD, take, replicate}
 use Rattle.sequences.specs.Board.{leafAt, servedFrom, nextFrom}
 use Rattle.sequences.specs.Serving.{leavesFrom, afterSlots, countList}
 use Rattle.sequences.proofs.Laws.{after-more-slots}
-use Rattle.calls.specs.declared.Check.{Check}
-use Rattle.calls.specs.declared.Check.the-variants.{Clear, Refused}
-use Rattle.calls.specs.Refusals.{slotCheck}
 use Rattle.calls.specs.Results.{servedName, movedOn}
-use Rattle.calls.proofs.Laws.{number-some}
 use Rattle.demands.specs.Histories.{Act, Add, Remove, Slot, Round, Report, State, does, says, after, log}
 use Rattle.demands.specs.Rounds.{names, namesFrom, FullRound, inARow, times, namesOn}
 use Rattle.demands.proofs.Windows.{round-away}
@@ -90,28 +86,6 @@ pub full-names : (s : State) (rest : List Act) → Valid s → FullRound s rest 
 full-names s rest is full =
     round-names s rest (s .drive .capacity) is (full .first) (omega arith) (let l = full .slots in omega arith)
     ∙ ap (λ (p : ℕ). namesOn (s .board) (leavesFrom (s .drive .capacity) p (s .drive .capacity))) (full .first)
-
--- ---- how far slots move a record
-
--- acts move a record by the slots among them that are served, on any board
-pub moves : (s : State) (acts : List Act)
-    → (after s acts .drive .capacity ≡ s .drive .capacity)
-    × (after s acts .drive .position ≡ afterSlots (s .drive .capacity) (s .drive .position) (length (names (log s acts))))
-unfolding after names log afterSlots
-moves s [] = (refl, refl)
-moves s (Add x w ∷ acts) = moves (does (Add x w) s) acts
-moves s (Remove x ∷ acts) = moves (does (Remove x) s) acts
-moves s (Round O ∷ acts) = moves s acts
-moves s (Report x ∷ acts) = moves s acts
-moves s (Slot ∷ acts) = go (slotCheck (s .drive) (s .board)) refl (moves (does Slot s) acts)
-  where
-    go : (c : Check) → slotCheck (s .drive) (s .board) ≡ c
-        → (after (does Slot s) acts .drive .capacity ≡ does Slot s .drive .capacity)
-        × (after (does Slot s) acts .drive .position ≡ afterSlots (does Slot s .drive .capacity) (does Slot s .drive .position) (length (names (log (does Slot s) acts))))
-        → (after (does Slot s) acts .drive .capacity ≡ s .drive .capacity)
-        × (after (does Slot s) acts .drive .position ≡ afterSlots (s .drive .capacity) (s .drive .position) (length (namesFrom s acts)))
-    go Clear e ih = rw e (rw e at ih)
-    go (Refused r) e ih = rw (e, number-some r) (rw e at ih)
 
 -- n slots serve n names
 slots-length : (s : State) (n : ℕ) → Valid s → length (names (log s (replicate n Slot))) ≡ n

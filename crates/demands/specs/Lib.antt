@@ -2,3 +2,4 @@ pub mod Histories
 pub mod Refusing
 pub mod Holdings
 pub mod Rounds
+pub mod Certificates

@@ -44,7 +44,7 @@ leafListed C p =
     start C (digits C - v) + getD (tss (digits C - v)) (p / 2 ^ v) 0
 
 -- A slot in its turn: from the stored position on, clear terms are passed over, at most one, and the next term serves. The slot says the name on the leaf
--- that the two sequences have there, the leaf, and how many terms were passed over; the record moves to the position after.
+-- that the two sequences have there, the leaf, how many terms were passed over, and the record's round number; the record moves to the position after.
 pub record InTurn (s : State) : Type 0 where
   pub over : ℕ
   pub few : over ≤ 1
@@ -52,7 +52,7 @@ pub record InTurn (s : State) : Type 0 where
   pub set : serves (s .drive .capacity) (s .drive .position + over) ≡ true
   pub said :
       let leaf = leafListed (s .drive .capacity) (s .drive .position + over) in
-      says Slot s .values ≡ getD (s .board) leaf 0 ∷ leaf ∷ over ∷ []
+      says Slot s .values ≡ getD (s .board) leaf 0 ∷ leaf ∷ over ∷ s .drive .round ∷ []
   pub moved : does Slot s .drive ≡ movedTo (s .drive) (next (digits (s .drive .capacity)) (s .drive .position + over))
 
 -- The t slots from slot i on, counted from 0.

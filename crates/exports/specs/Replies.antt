@@ -7,15 +7,20 @@ use Rattle.calls.specs.Refusals.{numberOf}
 use Rattle.calls.specs.Answers.{Answer}
 use Rattle.calls.specs.declared.Drive.{Drive}
 use Rattle.calls.specs.declared.Refusal.{Refusal}
+use Rattle.exports.specs.declared.Said.{Said}
 use Rattle.exports.specs.declared.Reply.{Reply}
 
--- A record and an answer: its number and its first three values, 0 where it has fewer.
+-- An answer: its number and its first four values, 0 where it has fewer.
+abbrev pub saidOf : Answer → Said
+saidOf a = record { number = a .number; first = getD (a .values) 0 0; second = getD (a .values) 1 0; third = getD (a .values) 2 0; fourth = getD (a .values) 3 0 }
+
+-- A record and an answer.
 abbrev pub reply : Drive → Answer → Reply
-reply d a = record { drive = d; number = a .number; first = getD (a .values) 0 0; second = getD (a .values) 1 0; third = getD (a .values) 2 0 }
+reply d a = record { drive = d; said = saidOf a }
 
--- The same of a call that is done, and of one that is refused.
-abbrev pub done : Drive → ℕ → ℕ → ℕ → Reply
-done d a b c = reply d (record { number = 0; values = a ∷ b ∷ c ∷ [] })
+-- What is said of a call that is done, and of one that is refused.
+abbrev pub done : ℕ → ℕ → ℕ → ℕ → Said
+done a b c d = saidOf (record { number = 0; values = a ∷ b ∷ c ∷ d ∷ [] })
 
-abbrev pub refusal : Drive → Refusal → ℕ → Reply
-refusal d r a = reply d (record { number = numberOf r; values = a ∷ [] })
+abbrev pub refusal : Refusal → ℕ → Said
+refusal r a = saidOf (record { number = numberOf r; values = a ∷ [] })

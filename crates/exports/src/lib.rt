@@ -1,11 +1,9 @@
 // The functions that C and Rust link: every call on a slot board, and save and read. A slice is a pointer and then a length.
 ghost use mathlib.Core.Path.{_≡_};
-ghost use Prim.Native.Nat.{_<_};
-ghost use lib.ListN.{getD};
 ghost use Rattle.calls.specs.Answers.{openingAnswer, changeAnswer, servingAnswer, roundingAnswer, reportAnswer};
 ghost use Rattle.calls.specs.Results as results;
 ghost use Rattle.sheets.specs.Results as sheet_results;
-ghost use Rattle.exports.specs.Replies.{reply, done, refusal};
+ghost use Rattle.exports.specs.Replies.{saidOf, reply, done, refusal};
 use calls::Change;
 use calls::Drive;
 use calls::Opening;
@@ -16,116 +14,127 @@ use calls::Serving;
 use sheets::Loading;
 use sheets::Saving;
 
-// What every function gives back: the record, the answer's number, 0 for done, and its values in the order of document 01; a value that an
-// answer does not have is 0. Plain numbers, small enough for registers.
+// What a call says: the answer's number, 0 for done, and its values in the order of document 01; a value that an answer does not have is 0. 64 bits each, so
+// that every value there is has room: a leaf, a round number, a ticket.
+#[repr(C)]
+pub struct Said {
+    pub number: u64,
+    pub first: u64,
+    pub second: u64,
+    pub third: u64,
+    pub fourth: u64,
+}
+
+// What a call gives back: the record, and what it says.
 #[repr(C)]
 pub struct Reply {
     pub drive: Drive,
-    pub number: u16,
-    pub first: u16,
-    pub second: u16,
-    pub third: u16,
+    pub said: Said,
 }
 
 // A call that is done.
-fn reply_done(drive: Drive, first: u16, second: u16, third: u16) -> Reply
-    ensures { λ r. ⌜ r ≡ done drive first second third ⌝ }
+fn said_done(first: u64, second: u64, third: u64, fourth: u64) -> Said
+    ensures { λ r. ⌜ r ≡ done first second third fourth ⌝ }
 {
-    Reply {
-        drive,
+    Said {
         number: 0,
         first,
         second,
         third,
+        fourth,
     }
 }
 
 // A call that is refused. Only ROOM has a value.
-fn reply_refused(drive: Drive, why: Refusal, first: u16) -> Reply
-    ensures { λ r. ⌜ r ≡ refusal drive why first ⌝ }
+fn said_refused(why: Refusal, first: u64) -> Said
+    ensures { λ r. ⌜ r ≡ refusal why first ⌝ }
 {
-    Reply {
-        drive,
-        number: why.number(),
+    Said {
+        number: why.number() as u64,
         first,
         second: 0,
         third: 0,
+        fourth: 0,
     }
 }
 
 // The answer of open.
-fn reply_opening(drive: Drive, answer: Opening) -> Reply
-    ensures { λ r. ⌜ r ≡ reply drive (openingAnswer answer) ⌝ }
+fn said_opening(answer: Opening) -> Said
+    ensures { λ r. ⌜ r ≡ saidOf (openingAnswer answer) ⌝ }
 {
     match answer {
-        Opening::Done => reply_done(drive, 0, 0, 0),
-        Opening::Refused(why) => reply_refused(drive, why, 0),
+        Opening::Done => said_done(0, 0, 0, 0),
+        Opening::Refused(why) => said_refused(why, 0),
     }
 }
 
 // The answer of add and of remove.
-fn reply_change(drive: Drive, answer: Change) -> Reply
-    ensures { λ r. ⌜ r ≡ reply drive (changeAnswer answer) ⌝ }
+fn said_change(answer: Change) -> Said
+    ensures { λ r. ⌜ r ≡ saidOf (changeAnswer answer) ⌝ }
 {
     match answer {
-        Change::Done(idle) => reply_done(drive, idle, 0, 0),
-        Change::Room(idle) => reply_refused(drive, Refusal::Room, idle),
-        Change::Refused(why) => reply_refused(drive, why, 0),
+        Change::Done(idle) => said_done(idle as u64, 0, 0, 0),
+        Change::Room(idle) => said_refused(Refusal::Room, idle as u64),
+        Change::Refused(why) => said_refused(why, 0),
     }
 }
 
 // The answer of slot.
-fn reply_serving(drive: Drive, answer: Serving) -> Reply
-    ensures { λ r. ⌜ r ≡ reply drive (servingAnswer answer) ⌝ }
+fn said_serving(answer: Serving) -> Said
+    ensures { λ r. ⌜ r ≡ saidOf (servingAnswer answer) ⌝ }
 {
     match answer {
-        Serving::Slot { name, leaf, passed } => reply_done(drive, name, leaf, passed),
-        Serving::Refused(why) => reply_refused(drive, why, 0),
+        Serving::Slot {
+            name,
+            leaf,
+            passed,
+            round,
+        } => said_done(name as u64, leaf as u64, passed as u64, round),
+        Serving::Refused(why) => said_refused(why, 0),
     }
 }
 
 // The answer of round.
-fn reply_rounding(drive: Drive, answer: Rounding) -> Reply
-    ensures { λ r. ⌜ r ≡ reply drive (roundingAnswer answer) ⌝ }
+fn said_rounding(answer: Rounding) -> Said
+    ensures { λ r. ⌜ r ≡ saidOf (roundingAnswer answer) ⌝ }
 {
     match answer {
-        Rounding::Done => reply_done(drive, 0, 0, 0),
-        Rounding::Refused(why) => reply_refused(drive, why, 0),
+        Rounding::Done => said_done(0, 0, 0, 0),
+        Rounding::Refused(why) => said_refused(why, 0),
     }
 }
 
 // The answer of report.
-fn reply_report(drive: Drive, answer: Report) -> Reply
-    ensures { λ r. ⌜ r ≡ reply drive (reportAnswer answer) ⌝ }
+fn said_report(answer: Report) -> Said
+    ensures { λ r. ⌜ r ≡ saidOf (reportAnswer answer) ⌝ }
 {
     match answer {
         Report::Stream {
             weight,
             pieces,
             spacing,
-        } => reply_done(drive, weight, pieces, spacing),
-        Report::Refused(why) => reply_refused(drive, why, 0),
+        } => said_done(weight as u64, pieces as u64, spacing as u64, 0),
+        Report::Refused(why) => said_refused(why, 0),
     }
 }
 
 // The answer of save.
-fn reply_saving(drive: Drive, answer: Saving) -> Reply
-    requires { ⌜ getD (sheet_results.savingAnswer answer .values) 0 0 < 65536 ⌝ }
-    ensures { λ r. ⌜ r ≡ reply drive (sheet_results.savingAnswer answer) ⌝ }
+fn said_saving(answer: Saving) -> Said
+    ensures { λ r. ⌜ r ≡ saidOf (sheet_results.savingAnswer answer) ⌝ }
 {
     match answer {
-        Saving::Done(bytes) => reply_done(drive, bytes as u16, 0, 0),
-        Saving::Refused(why) => reply_refused(drive, why, 0),
+        Saving::Done(bytes) => said_done(bytes as u64, 0, 0, 0),
+        Saving::Refused(why) => said_refused(why, 0),
     }
 }
 
 // The answer of read.
-fn reply_loading(drive: Drive, answer: Loading) -> Reply
-    ensures { λ r. ⌜ r ≡ reply drive (sheet_results.loadingAnswer answer) ⌝ }
+fn said_loading(answer: Loading) -> Said
+    ensures { λ r. ⌜ r ≡ saidOf (sheet_results.loadingAnswer answer) ⌝ }
 {
     match answer {
-        Loading::Done => reply_done(drive, 0, 0, 0),
-        Loading::Refused(why) => reply_refused(drive, why, 0),
+        Loading::Done => said_done(0, 0, 0, 0),
+        Loading::Refused(why) => said_refused(why, 0),
     }
 }
 
@@ -137,7 +146,10 @@ pub extern "C" fn mandrozsi_open(capacity: u16, board: &mut [u16]) -> Reply
     let opened = Drive::open(capacity, board);
     let after = opened.drive;
     let answer = opened.answer;
-    reply_opening(after, answer)
+    Reply {
+        drive: after,
+        said: said_opening(answer),
+    }
 }
 
 // Admits a stream: the idle leaves left; refused for ROOM, the idle leaves there are.
@@ -148,7 +160,10 @@ pub extern "C" fn mandrozsi_add(drive: Drive, board: &mut [u16], name: u16, weig
     let added = drive.add(board, name, weight);
     let after = added.drive;
     let answer = added.answer;
-    reply_change(after, answer)
+    Reply {
+        drive: after,
+        said: said_change(answer),
+    }
 }
 
 // Removes a stream: the idle leaves left.
@@ -159,10 +174,13 @@ pub extern "C" fn mandrozsi_remove(drive: Drive, board: &mut [u16], name: u16) -
     let removed = drive.remove(board, name);
     let after = removed.drive;
     let answer = removed.answer;
-    reply_change(after, answer)
+    Reply {
+        drive: after,
+        said: said_change(answer),
+    }
 }
 
-// Serves a slot: the name, the leaf, the terms passed over; the record moves on.
+// Serves a slot: the name, the leaf, the terms passed over, the number of its round; the record moves on.
 #[no_mangle]
 pub extern "C" fn mandrozsi_slot(drive: Drive, board: &[u16]) -> Reply
     ensures { λ r. ⌜ r ≡ reply (results.served drive (now (board .entry)) .drive) (results.servedAnswer drive (now (board .entry))) ⌝ }
@@ -170,7 +188,10 @@ pub extern "C" fn mandrozsi_slot(drive: Drive, board: &[u16]) -> Reply
     let served = drive.slot(board);
     let after = served.drive;
     let answer = served.answer;
-    reply_serving(after, answer)
+    Reply {
+        drive: after,
+        said: said_serving(answer),
+    }
 }
 
 // Writes the names of a full round to the start of the output.
@@ -181,7 +202,10 @@ pub extern "C" fn mandrozsi_round(drive: Drive, board: &[u16], output: &mut [u16
     let rounded = drive.round(board, output);
     let after = rounded.drive;
     let answer = rounded.answer;
-    reply_rounding(after, answer)
+    Reply {
+        drive: after,
+        said: said_rounding(answer),
+    }
 }
 
 // Reports on a stream: weight, number of pieces, spacing.
@@ -192,7 +216,10 @@ pub extern "C" fn mandrozsi_report(drive: Drive, board: &[u16], name: u16) -> Re
     let reported = drive.report(board, name);
     let after = reported.drive;
     let answer = reported.answer;
-    reply_report(after, answer)
+    Reply {
+        drive: after,
+        said: said_report(answer),
+    }
 }
 
 // Saves a board: its sheet at the start of the output, and how many bytes that is.
@@ -203,7 +230,10 @@ pub extern "C" fn mandrozsi_save(drive: Drive, board: &[u16], output: &mut [u8])
     let saved = sheets::save(drive, board, output);
     let after = saved.drive;
     let answer = saved.answer;
-    reply_saving(after, answer)
+    Reply {
+        drive: after,
+        said: said_saving(answer),
+    }
 }
 
 // Reads a sheet: the leaves of a board, and a record at the start of a round.
@@ -214,5 +244,8 @@ pub extern "C" fn mandrozsi_read(sheet: &[u8], board: &mut [u16]) -> Reply
     let loaded = sheets::read(sheet, board);
     let after = loaded.drive;
     let answer = loaded.answer;
-    reply_loading(after, answer)
+    Reply {
+        drive: after,
+        said: said_loading(answer),
+    }
 }

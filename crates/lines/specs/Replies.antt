@@ -37,7 +37,7 @@ changeLine (change.Room idle) = line (numberOf Room) (idle ∷ [])
 changeLine (change.Refused r) = line (numberOf r) []
 
 abbrev pub servingLine : Serving → List ℕ
-servingLine (serving.Slot name leaf passed) = line 0 (name ∷ leaf ∷ [])
+servingLine (serving.Slot name leaf passed round) = line 0 (name ∷ leaf ∷ [])
 servingLine (serving.Refused r) = line (numberOf r) []
 
 abbrev pub roundingLine : Rounding → List ℕ → List ℕ

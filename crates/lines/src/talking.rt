@@ -97,6 +97,7 @@ fn tell_serving(served: Served, out: &mut [u8], at: usize) -> Stepped
             name,
             leaf,
             passed: _,
+            round: _,
         } => {
             let values = [name, leaf];
             Stepped {

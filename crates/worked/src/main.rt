@@ -1,10 +1,10 @@
 // Boards worked by hand, vectors and refusals that are run and not proved. The input has one act to a line, the output the same lines, each with what
-// the act said: the answer's number and values, then the record, as (C p). The expected output was worked out from document 01.
+// the act said: the answer's number and values, then the record, as (C p and its round number). The expected output was worked out from document 01.
 //
 //     lend N X      lends a board of N entries; every entry of the store behind it is X
 //     put I X       writes X to entry I of the store
 //     leaves I N    the N entries of the store from I on
-//     hold C P      the record becomes C and P
+//     hold C P N    the record becomes C and P, with the round number N, or 0 where there is none
 //     open C, add X W, remove X, slot, report X
 //     round N M     lends an output of N entries of 99, and shows the first M of them afterwards
 //
@@ -31,15 +31,20 @@ fn say(text: &[u8]) {
     io::write_all(STDOUT_FILENO, text);
 }
 
-fn say_number(n: u16) {
+fn say_long(n: u64) {
     say(b" ");
-    io::print_decimal(STDOUT_FILENO, n as u64);
+    io::print_decimal(STDOUT_FILENO, n);
+}
+
+fn say_number(n: u16) {
+    say_long(n as u64);
 }
 
 fn say_drive(d: Drive) {
     say(b" (");
     io::print_decimal(STDOUT_FILENO, d.capacity as u64);
     say_number(d.position);
+    say_long(d.round);
     say(b")");
 }
 
@@ -129,13 +134,20 @@ fn serves(d: Drive, board: &[u16]) -> Drive {
     let r = d.slot(board);
     let answer = r.answer;
     match answer {
-        Serving::Slot { name, leaf, passed } => {
+        Serving::Slot {
+            name,
+            leaf,
+            passed,
+            round,
+        } => {
             say_number(0);
             say_three(name, leaf, passed);
+            say_long(round);
         }
         Serving::Refused(n) => {
             say_number(n.number());
             say_three(0, 0, 0);
+            say_long(0);
         }
     }
     let after = r.drive;
@@ -197,25 +209,27 @@ fn call(d: Drive, letter: u8, a: u16, b: u16, board: &mut [u16], output: &mut [u
     }
 }
 
-fn wide(b: u8) -> u32 {
-    b as u32
+// A number with one more digit at its end.
+fn with_digit(value: u64, b: u8) -> u64 {
+    let tens = std::num::wrapping_add_u64(value << 3, value << 1);
+    std::num::wrapping_add_u64(tens, (b % 16) as u64)
 }
 
 // The number that stands at a place of a line, counted from 0 among its numbers; 0 where there is none.
-fn number_at(line: &[u8], place: usize) -> u16 {
+fn long_at(line: &[u8], place: usize) -> u64 {
     let mut left = place;
     let mut inside = false;
-    let mut value: u32 = 0;
+    let mut value: u64 = 0;
     let mut i: usize = 0;
     while i < line.len() {
         let b = line[i];
         if b'0' <= b && b <= b'9' {
             inside = true;
-            value = (value % 65536 * 10 + wide(b) % 16) % 65536;
+            value = with_digit(value, b);
         } else {
             if inside {
                 if left == 0 {
-                    return (value % 65536) as u16;
+                    return value;
                 }
                 left -= 1;
             }
@@ -224,7 +238,11 @@ fn number_at(line: &[u8], place: usize) -> u16 {
         }
         i += 1;
     }
-    if left == 0 { (value % 65536) as u16 } else { 0 }
+    if left == 0 { value } else { 0 }
+}
+
+fn number_at(line: &[u8], place: usize) -> u16 {
+    (long_at(line, place) % 65536) as u16
 }
 
 // Where the line that starts at an index ends.
@@ -240,6 +258,15 @@ fn line_end(text: &[u8], from: usize) -> usize
         i += 1;
     }
     i
+}
+
+// A record given by hand.
+fn held(capacity: u16, position: u16, round: u64) -> Drive {
+    Drive {
+        capacity,
+        position,
+        round,
+    }
 }
 
 // Carries out a line, which is told from others by its third letter.
@@ -275,7 +302,7 @@ fn carry_out(s: State, line: &[u8], store: &mut [u16], output: &mut [u16]) -> St
             State { drive: d, lent }
         }
         b'l' => State {
-            drive: Drive::new(a, b),
+            drive: held(a, b, long_at(line, 2)),
             lent,
         },
         _ => State {

@@ -2,7 +2,7 @@
 use crate::clock::{median, now};
 use paper::random::Random;
 use paper::trial::Calls;
-use paper::{hand, letter, Answer};
+use paper::{at, hand, letter, Answer, Record};
 use std::hint::black_box;
 
 pub const CALLS: [&str; 7] = ["slot", "add", "remove", "round", "report", "save", "read"];
@@ -14,22 +14,22 @@ impl Calls for Letter {
     fn open(&self, capacity: u16, board: &mut [u16]) -> Answer {
         letter::open(capacity, board)
     }
-    fn add(&self, record: (u16, u16), board: &mut [u16], name: u16, weight: u16) -> Answer {
+    fn add(&self, record: Record, board: &mut [u16], name: u16, weight: u16) -> Answer {
         letter::add(record, board, name, weight)
     }
-    fn remove(&self, record: (u16, u16), board: &mut [u16], name: u16) -> Answer {
+    fn remove(&self, record: Record, board: &mut [u16], name: u16) -> Answer {
         letter::remove(record, board, name)
     }
-    fn slot(&self, record: (u16, u16), board: &[u16]) -> Answer {
+    fn slot(&self, record: Record, board: &[u16]) -> Answer {
         letter::slot(record, board)
     }
-    fn round(&self, record: (u16, u16), board: &[u16], output: &mut [u16]) -> Answer {
+    fn round(&self, record: Record, board: &[u16], output: &mut [u16]) -> Answer {
         letter::round(record, board, output)
     }
-    fn report(&self, record: (u16, u16), board: &[u16], name: u16) -> Answer {
+    fn report(&self, record: Record, board: &[u16], name: u16) -> Answer {
         letter::report(record, board, name)
     }
-    fn save(&self, record: (u16, u16), board: &[u16], output: &mut [u8]) -> Answer {
+    fn save(&self, record: Record, board: &[u16], output: &mut [u8]) -> Answer {
         letter::save(record, board, output)
     }
     fn read(&self, sheet: &[u8], board: &mut [u16]) -> Answer {
@@ -52,7 +52,7 @@ fn board(c: usize, n: usize) -> (Vec<u16>, Vec<u16>) {
     let mut random = Random::new((c * 5000 + n) as u64);
     let weights = weights(n, (c * 7 / 8).max(n), &mut random);
     let mut board = vec![0; c];
-    let record = (c as u16, 1);
+    let record = at(c as u16, 1);
     for (i, &w) in weights.iter().enumerate() {
         assert_eq!(hand::add(record, &mut board, i as u16 + 1, w as u16).number, 0);
     }
@@ -70,7 +70,7 @@ const COPIES: usize = 32;
 /// Nanoseconds of one call, by one timing of many.
 fn once(calls: &dyn Calls, call: &str, board: &[u16], names: &[u16], few: bool) -> f64 {
     let c = board.len();
-    let record = (c as u16, 1);
+    let record = at(c as u16, 1);
     let copies = if few { 4 } else { COPIES };
     let name = |i: usize| names[i * 7919 % names.len()];
     let mut boards: Vec<Vec<u16>> = (0..copies).map(|_| board.to_vec()).collect();

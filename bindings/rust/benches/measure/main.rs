@@ -11,6 +11,7 @@ mod schedulers;
 use clock::{median, now};
 use paper::random::Random;
 use paper::trial::Calls;
+use paper::{at, Record};
 use schedulers::{worst_lag, Scheduler};
 use std::fmt::Write as _;
 use std::hint::black_box;
@@ -58,7 +59,7 @@ impl Scheduler for ByRounds {
 
 /// The slot board of the version written for speed.
 struct ByHand {
-    record: (u16, u16),
+    record: Record,
     board: Vec<u16>,
 }
 
@@ -66,7 +67,7 @@ impl Scheduler for ByHand {
     fn next(&mut self) -> usize {
         let answer = paper::hand::slot(self.record, &self.board);
         self.record = answer.record;
-        usize::from(answer.values[0]) - 1
+        answer.values[0] as usize - 1
     }
 }
 
@@ -74,7 +75,7 @@ fn full_board(weights: &[u32]) -> Vec<u16> {
     let c: u32 = weights.iter().sum();
     let mut board = vec![0; c as usize];
     for (i, &w) in weights.iter().enumerate() {
-        assert_eq!(paper::hand::add((c as u16, 1), &mut board, i as u16 + 1, w as u16).number, 0);
+        assert_eq!(paper::hand::add(at(c as u16, 1), &mut board, i as u16 + 1, w as u16).number, 0);
     }
     board
 }
@@ -88,7 +89,7 @@ fn all(weights: &[u32]) -> Vec<(&'static str, Box<dyn Scheduler>)> {
         (
             "slot board",
             Box::new(Linked {
-                drive: boundary::drive((capacity, 1)),
+                drive: boundary::drive(at(capacity, 1)),
                 board: board.clone(),
             }),
         ),
@@ -96,7 +97,7 @@ fn all(weights: &[u32]) -> Vec<(&'static str, Box<dyn Scheduler>)> {
         (
             "slot board by rounds",
             Box::new(ByRounds {
-                drive: boundary::drive((capacity, 1)),
+                drive: boundary::drive(at(capacity, 1)),
                 board: board.clone(),
                 names: Vec::new(),
                 served: 0,
@@ -105,7 +106,7 @@ fn all(weights: &[u32]) -> Vec<(&'static str, Box<dyn Scheduler>)> {
         (
             "slot board by hand",
             Box::new(ByHand {
-                record: (capacity, 1),
+                record: at(capacity, 1),
                 board,
             }),
         ),

@@ -1,6 +1,6 @@
 //! Document 01 as one would write it by hand for speed: bit operations in place of sequences and tables, pieces read off the stretches of equal
 //! leaves, one pass for the idle pieces of a whole placing. No heap. The benchmark sets the proved library beside it.
-use crate::Answer;
+use crate::{at, Answer, Record};
 
 /// Calls `f` with the start, the exponent and the name of each piece, in order of starts: a stretch of one name is cut into the largest aligned
 /// runs that it has.
@@ -97,17 +97,18 @@ fn check_open(c: u16, board: &[u16]) -> u16 {
 }
 
 #[inline]
-fn check_slot((c, p): (u16, u16), board: &[u16]) -> u16 {
+fn check_slot(record: Record, board: &[u16]) -> u16 {
+    let (c, p) = (record.capacity, record.position);
     match check_open(c, board) {
         0 if p == 0 || p.leading_zeros() < c.leading_zeros() => 3,
         number => number,
     }
 }
 
-fn check_change(record: (u16, u16), board: &[u16]) -> u16 {
+fn check_change(record: Record, board: &[u16]) -> u16 {
     match check_slot(record, board) {
-        0 if record.1 != 1 => 4,
-        0 if !good(&board[..record.0.into()]) => 5,
+        0 if record.position != 1 => 4,
+        0 if !good(&board[..record.capacity.into()]) => 5,
         number => number,
     }
 }
@@ -115,18 +116,18 @@ fn check_change(record: (u16, u16), board: &[u16]) -> u16 {
 pub fn open(capacity: u16, board: &mut [u16]) -> Answer {
     let number = check_open(capacity, board);
     if number != 0 {
-        return Answer::refused((0, 0), number);
+        return Answer::refused(at(0, 0), number);
     }
     board[..capacity.into()].fill(0);
-    Answer::done((capacity, 1), [0; 3])
+    Answer::done(at(capacity, 1), [0; 4])
 }
 
-pub fn add(record: (u16, u16), board: &mut [u16], name: u16, weight: u16) -> Answer {
+pub fn add(record: Record, board: &mut [u16], name: u16, weight: u16) -> Answer {
     let mut number = check_change(record, board);
     if number != 0 {
         return Answer::refused(record, number);
     }
-    let leaves = &mut board[..record.0.into()];
+    let leaves = &mut board[..record.capacity.into()];
     let idle = weigh(leaves, 0) as u16;
     number = if name == 0 {
         6
@@ -138,17 +139,17 @@ pub fn add(record: (u16, u16), board: &mut [u16], name: u16, weight: u16) -> Ans
         return Answer::no_room(record, idle);
     } else {
         place(leaves, name, weight);
-        return Answer::done(record, [idle - weight, 0, 0]);
+        return Answer::done(record, [u64::from(idle - weight), 0, 0, 0]);
     };
     Answer::refused(record, number)
 }
 
-pub fn remove(record: (u16, u16), board: &mut [u16], name: u16) -> Answer {
+pub fn remove(record: Record, board: &mut [u16], name: u16) -> Answer {
     let number = check_change(record, board);
     if number != 0 {
         return Answer::refused(record, number);
     }
-    let leaves = &mut board[..record.0.into()];
+    let leaves = &mut board[..record.capacity.into()];
     if name == 0 {
         return Answer::refused(record, 6);
     }
@@ -161,7 +162,7 @@ pub fn remove(record: (u16, u16), board: &mut [u16], name: u16) -> Answer {
         }
     }
     tidy(leaves);
-    Answer::done(record, [weigh(leaves, 0) as u16, 0, 0])
+    Answer::done(record, [weigh(leaves, 0) as u64, 0, 0, 0])
 }
 
 /// The leaf served at position p, the terms passed over, the position after.
@@ -179,17 +180,22 @@ fn pick(c: u16, p: u16) -> (u16, u16, u16) {
 }
 
 #[inline]
-pub fn slot(record: (u16, u16), board: &[u16]) -> Answer {
+pub fn slot(record: Record, board: &[u16]) -> Answer {
     let number = check_slot(record, board);
     if number != 0 {
         return Answer::refused(record, number);
     }
-    let (leaf, passed, next) = pick(record.0, record.1);
-    Answer::done((record.0, next), [board[usize::from(leaf)], leaf, passed])
+    let (leaf, passed, next) = pick(record.capacity, record.position);
+    let after = Record {
+        position: next,
+        round: record.round.wrapping_add(u64::from(next == 1)),
+        ..record
+    };
+    Answer::done(after, [board[usize::from(leaf)].into(), leaf.into(), passed.into(), record.round])
 }
 
-pub fn round(record: (u16, u16), board: &[u16], output: &mut [u16]) -> Answer {
-    let c = record.0;
+pub fn round(record: Record, board: &[u16], output: &mut [u16]) -> Answer {
+    let c = record.capacity;
     let mut number = check_slot(record, board);
     if number == 0 && output.len() < c.into() {
         number = 11;
@@ -203,7 +209,7 @@ pub fn round(record: (u16, u16), board: &[u16], output: &mut [u16]) -> Answer {
         *entry = board[usize::from(leaf)];
         p = next;
     }
-    Answer::done(record, [0; 3])
+    Answer::done(record, [0; 4])
 }
 
 /// The widest gap of one round, and the one from its last serve over its end to the first of the next.
@@ -225,9 +231,9 @@ fn spacing(leaves: &[u16], name: u16) -> usize {
     widest.max(first + leaves.len() - last)
 }
 
-pub fn report(record: (u16, u16), board: &[u16], name: u16) -> Answer {
+pub fn report(record: Record, board: &[u16], name: u16) -> Answer {
     let mut number = check_slot(record, board);
-    if number == 0 && !good(&board[..record.0.into()]) {
+    if number == 0 && !good(&board[..record.capacity.into()]) {
         number = 5;
     }
     if number == 0 && name == 0 {
@@ -236,16 +242,16 @@ pub fn report(record: (u16, u16), board: &[u16], name: u16) -> Answer {
     if number != 0 {
         return Answer::refused(record, number);
     }
-    let leaves = &board[..record.0.into()];
+    let leaves = &board[..record.capacity.into()];
     let weight = weigh(leaves, name);
     if weight == 0 {
         return Answer::refused(record, 9);
     }
-    Answer::done(record, [weight as u16, weight.count_ones() as u16, spacing(leaves, name) as u16])
+    Answer::done(record, [weight as u64, weight.count_ones().into(), spacing(leaves, name) as u64, 0])
 }
 
-pub fn save(record: (u16, u16), board: &[u16], output: &mut [u8]) -> Answer {
-    let c = usize::from(record.0);
+pub fn save(record: Record, board: &[u16], output: &mut [u8]) -> Answer {
+    let c = usize::from(record.capacity);
     let needed = c.div_ceil(253) * 512;
     let mut number = check_change(record, board);
     if number == 0 && output.len() < needed {
@@ -255,9 +261,9 @@ pub fn save(record: (u16, u16), board: &[u16], output: &mut [u8]) -> Answer {
         return Answer::refused(record, number);
     }
     for (b, (part, block)) in board[..c].chunks(253).zip(output.chunks_exact_mut(512)).enumerate() {
-        let mut sum = (b as u16).wrapping_add(record.0);
+        let mut sum = (b as u16).wrapping_add(record.capacity);
         block[..2].copy_from_slice(&(b as u16).to_le_bytes());
-        block[2..4].copy_from_slice(&record.0.to_le_bytes());
+        block[2..4].copy_from_slice(&record.capacity.to_le_bytes());
         for (two, &leaf) in block[4..].chunks_exact_mut(2).zip(part) {
             two.copy_from_slice(&leaf.to_le_bytes());
             sum = sum.wrapping_add(leaf);
@@ -265,11 +271,11 @@ pub fn save(record: (u16, u16), board: &[u16], output: &mut [u8]) -> Answer {
         block[4 + 2 * part.len()..510].fill(0);
         block[510..].copy_from_slice(&0u16.wrapping_sub(sum).to_le_bytes());
     }
-    Answer::done(record, [needed as u16, 0, 0])
+    Answer::done(record, [needed as u64, 0, 0, 0])
 }
 
 pub fn read(bytes: &[u8], board: &mut [u16]) -> Answer {
-    let refused = |number| Answer::refused((0, 0), number);
+    let refused = |number| Answer::refused(at(0, 0), number);
     let word = |at: usize| u16::from_le_bytes([bytes[at], bytes[at + 1]]);
     if bytes.len() < 512 {
         return refused(12);
@@ -303,5 +309,5 @@ pub fn read(bytes: &[u8], board: &mut [u16]) -> Answer {
         return refused(5);
     }
     board[..capacity].copy_from_slice(&leaves[..capacity]);
-    Answer::done((c, 1), [0; 3])
+    Answer::done(at(c, 1), [0; 4])
 }

@@ -1,6 +1,6 @@
 //! Document 01 by the letter, with what document 02 amends: sequences as the lists that the recursion gives, pieces by looking at every aligned run, tidying by listing all
 //! pieces anew after each move. Slow, and meant to be believed at sight.
-use crate::Answer;
+use crate::{at, Answer, Record};
 
 const CAPACITY: u16 = 1;
 const SHORT: u16 = 2;
@@ -51,6 +51,15 @@ pub fn slot_from(c: usize, p: usize) -> (usize, usize, usize) {
     let earlier = terms[..at - 1].iter().filter(|&&t| t == term).count();
     let leaf = tree_start(c, k - term) + reversed(earlier, k - term);
     (leaf, at - p, if at == terms.len() { 1 } else { at + 1 })
+}
+
+/// Request No. 6: "one more each time p returns to 1, and 0 again after the largest."
+fn round_after(number: u64) -> u64 {
+    if number == u64::MAX {
+        0
+    } else {
+        number + 1
+    }
 }
 
 /// The leaves of a full round, from p = 1: the list is walked once, with a counter for each tree.
@@ -155,10 +164,10 @@ struct Asked<'a> {
     needed: usize,
 }
 
-fn asked((c, p): (u16, u16), board: &[u16]) -> Asked<'_> {
+fn asked(record: Record, board: &[u16]) -> Asked<'_> {
     Asked {
-        capacity: c.into(),
-        position: p.into(),
+        capacity: record.capacity.into(),
+        position: record.position.into(),
         board,
         name: 0,
         weight: 0,
@@ -197,14 +206,14 @@ impl Asked<'_> {
 }
 
 pub fn open(capacity: u16, board: &mut [u16]) -> Answer {
-    if let Some(number) = asked((capacity, 1), board).lowest(&[CAPACITY, SHORT]) {
-        return Answer::refused((0, 0), number);
+    if let Some(number) = asked(at(capacity, 1), board).lowest(&[CAPACITY, SHORT]) {
+        return Answer::refused(at(0, 0), number);
     }
     board[..capacity.into()].fill(0);
-    Answer::done((capacity, 1), [0; 3])
+    Answer::done(at(capacity, 1), [0; 4])
 }
 
-pub fn add(record: (u16, u16), board: &mut [u16], name: u16, weight: u16) -> Answer {
+pub fn add(record: Record, board: &mut [u16], name: u16, weight: u16) -> Answer {
     let given = Asked {
         name,
         weight,
@@ -215,12 +224,12 @@ pub fn add(record: (u16, u16), board: &mut [u16], name: u16, weight: u16) -> Ans
         Some(number) => return Answer::refused(record, number),
         None => {}
     }
-    let leaves = &mut board[..record.0.into()];
+    let leaves = &mut board[..record.capacity.into()];
     place(leaves, name, weight);
-    Answer::done(record, [weight_of(leaves, 0) as u16, 0, 0])
+    Answer::done(record, [weight_of(leaves, 0) as u64, 0, 0, 0])
 }
 
-pub fn remove(record: (u16, u16), board: &mut [u16], name: u16) -> Answer {
+pub fn remove(record: Record, board: &mut [u16], name: u16) -> Answer {
     let given = Asked {
         name,
         ..asked(record, board)
@@ -228,37 +237,42 @@ pub fn remove(record: (u16, u16), board: &mut [u16], name: u16) -> Answer {
     if let Some(number) = given.lowest(&[CAPACITY, SHORT, POSITION, MIDROUND, DAMAGED, NAME, ABSENT]) {
         return Answer::refused(record, number);
     }
-    let leaves = &mut board[..record.0.into()];
+    let leaves = &mut board[..record.capacity.into()];
     for leaf in leaves.iter_mut() {
         if *leaf == name {
             *leaf = 0;
         }
     }
     tidy(leaves);
-    Answer::done(record, [weight_of(leaves, 0) as u16, 0, 0])
+    Answer::done(record, [weight_of(leaves, 0) as u64, 0, 0, 0])
 }
 
-pub fn slot(record: (u16, u16), board: &[u16]) -> Answer {
+pub fn slot(record: Record, board: &[u16]) -> Answer {
     if let Some(number) = asked(record, board).lowest(&[CAPACITY, SHORT, POSITION]) {
         return Answer::refused(record, number);
     }
-    let (leaf, passed, next) = slot_from(record.0.into(), record.1.into());
-    Answer::done((record.0, next as u16), [board[leaf], leaf as u16, passed as u16])
+    let (leaf, passed, next) = slot_from(record.capacity.into(), record.position.into());
+    let after = Record {
+        position: next as u16,
+        round: if next == 1 { round_after(record.round) } else { record.round },
+        ..record
+    };
+    Answer::done(after, [board[leaf].into(), leaf as u64, passed as u64, record.round])
 }
 
-pub fn round(record: (u16, u16), board: &[u16], output: &mut [u16]) -> Answer {
+pub fn round(record: Record, board: &[u16], output: &mut [u16]) -> Answer {
     let given = Asked {
         output: output.len(),
-        needed: record.0.into(),
+        needed: record.capacity.into(),
         ..asked(record, board)
     };
     if let Some(number) = given.lowest(&[CAPACITY, SHORT, POSITION, OUTPUT]) {
         return Answer::refused(record, number);
     }
-    for (entry, leaf) in output.iter_mut().zip(round_leaves(record.0.into())) {
+    for (entry, leaf) in output.iter_mut().zip(round_leaves(record.capacity.into())) {
         *entry = board[leaf];
     }
-    Answer::done(record, [0; 3])
+    Answer::done(record, [0; 4])
 }
 
 /// Document 02, No. 1: "the largest distance from one serve to the next over two rounds of the same board, end of round included".
@@ -269,7 +283,7 @@ fn spacing(leaves: &[u16], name: u16) -> usize {
     serves.windows(2).map(|pair| pair[1] - pair[0]).max().unwrap()
 }
 
-pub fn report(record: (u16, u16), board: &[u16], name: u16) -> Answer {
+pub fn report(record: Record, board: &[u16], name: u16) -> Answer {
     let given = Asked {
         name,
         ..asked(record, board)
@@ -277,10 +291,10 @@ pub fn report(record: (u16, u16), board: &[u16], name: u16) -> Answer {
     if let Some(number) = given.lowest(&[CAPACITY, SHORT, POSITION, DAMAGED, NAME, ABSENT]) {
         return Answer::refused(record, number);
     }
-    let leaves = &board[..record.0.into()];
+    let leaves = &board[..record.capacity.into()];
     let weight = weight_of(leaves, name);
     let number = pieces(leaves).iter().filter(|piece| piece.name == name).count();
-    Answer::done(record, [weight as u16, number as u16, spacing(leaves, name) as u16])
+    Answer::done(record, [weight as u64, number as u64, spacing(leaves, name) as u64, 0])
 }
 
 /// The bytes of a sheet.
@@ -297,8 +311,8 @@ pub fn sheet(leaves: &[u16]) -> Vec<u8> {
     bytes
 }
 
-pub fn save(record: (u16, u16), board: &[u16], output: &mut [u8]) -> Answer {
-    let needed = usize::from(record.0).div_ceil(253) * 512;
+pub fn save(record: Record, board: &[u16], output: &mut [u8]) -> Answer {
+    let needed = usize::from(record.capacity).div_ceil(253) * 512;
     let given = Asked {
         output: output.len(),
         needed,
@@ -307,18 +321,18 @@ pub fn save(record: (u16, u16), board: &[u16], output: &mut [u8]) -> Answer {
     if let Some(number) = given.lowest(&[CAPACITY, SHORT, POSITION, MIDROUND, DAMAGED, OUTPUT]) {
         return Answer::refused(record, number);
     }
-    output[..needed].copy_from_slice(&sheet(&board[..record.0.into()]));
-    Answer::done(record, [needed as u16, 0, 0])
+    output[..needed].copy_from_slice(&sheet(&board[..record.capacity.into()]));
+    Answer::done(record, [needed as u64, 0, 0, 0])
 }
 
 pub fn read(bytes: &[u8], board: &mut [u16]) -> Answer {
-    let refused = |number| Answer::refused((0, 0), number);
+    let refused = |number| Answer::refused(at(0, 0), number);
     if bytes.len() < 512 {
         return refused(BLOCK);
     }
     let words: Vec<u16> = bytes.chunks_exact(2).map(|two| u16::from_le_bytes([two[0], two[1]])).collect();
     let c = words[1];
-    if let Some(number) = asked((c, 1), board).lowest(&[CAPACITY, SHORT]) {
+    if let Some(number) = asked(at(c, 1), board).lowest(&[CAPACITY, SHORT]) {
         return refused(number);
     }
     if bytes.len() != usize::from(c).div_ceil(253) * 512 {
@@ -340,5 +354,5 @@ pub fn read(bytes: &[u8], board: &mut [u16]) -> Answer {
         return refused(DAMAGED);
     }
     board[..c.into()].copy_from_slice(&leaves);
-    Answer::done((c, 1), [0; 3])
+    Answer::done(at(c, 1), [0; 4])
 }

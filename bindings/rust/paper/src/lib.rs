@@ -5,33 +5,50 @@ pub mod letter;
 pub mod random;
 pub mod trial;
 
-/// What a call answers: the record (C, p), the number (0 for done), and the values, zeros where it has none. Of the refusals ROOM alone has one.
+/// The drive record: C, p, and the round number.
+#[derive(Clone, Copy, Debug, PartialEq, Eq)]
+pub struct Record {
+    pub capacity: u16,
+    pub position: u16,
+    pub round: u64,
+}
+
+/// The record with C and p, of round 0.
+pub fn at(capacity: u16, position: u16) -> Record {
+    Record {
+        capacity,
+        position,
+        round: 0,
+    }
+}
+
+/// What a call answers: the record, the number (0 for done), and the values, zeros where it has none. Of the refusals ROOM alone has one.
 #[derive(Clone, Copy, Debug, PartialEq, Eq)]
 pub struct Answer {
-    pub record: (u16, u16),
+    pub record: Record,
     pub number: u16,
-    pub values: [u16; 3],
+    pub values: [u64; 4],
 }
 
 impl Answer {
-    pub fn done(record: (u16, u16), values: [u16; 3]) -> Answer {
+    pub fn done(record: Record, values: [u64; 4]) -> Answer {
         Answer { record, number: 0, values }
     }
 
-    pub fn refused(record: (u16, u16), number: u16) -> Answer {
+    pub fn refused(record: Record, number: u16) -> Answer {
         Answer {
             record,
             number,
-            values: [0; 3],
+            values: [0; 4],
         }
     }
 
     /// ROOM: the idle leaves there are (document 02, No. 5).
-    pub fn no_room(record: (u16, u16), idle: u16) -> Answer {
+    pub fn no_room(record: Record, idle: u16) -> Answer {
         Answer {
             record,
             number: 10,
-            values: [idle, 0, 0],
+            values: [idle.into(), 0, 0, 0],
         }
     }
 }

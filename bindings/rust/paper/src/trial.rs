@@ -1,17 +1,17 @@
 //! Comparison of any version of the calls with [`letter`]: the answer, the record and every entry of every lent slice, on every small board and
 //! on many thousand random inputs.
 use crate::random::Random;
-use crate::{hand, letter, Answer};
+use crate::{at, hand, letter, Answer, Record};
 
 /// The calls of document 01.
 pub trait Calls {
     fn open(&self, capacity: u16, board: &mut [u16]) -> Answer;
-    fn add(&self, record: (u16, u16), board: &mut [u16], name: u16, weight: u16) -> Answer;
-    fn remove(&self, record: (u16, u16), board: &mut [u16], name: u16) -> Answer;
-    fn slot(&self, record: (u16, u16), board: &[u16]) -> Answer;
-    fn round(&self, record: (u16, u16), board: &[u16], output: &mut [u16]) -> Answer;
-    fn report(&self, record: (u16, u16), board: &[u16], name: u16) -> Answer;
-    fn save(&self, record: (u16, u16), board: &[u16], output: &mut [u8]) -> Answer;
+    fn add(&self, record: Record, board: &mut [u16], name: u16, weight: u16) -> Answer;
+    fn remove(&self, record: Record, board: &mut [u16], name: u16) -> Answer;
+    fn slot(&self, record: Record, board: &[u16]) -> Answer;
+    fn round(&self, record: Record, board: &[u16], output: &mut [u16]) -> Answer;
+    fn report(&self, record: Record, board: &[u16], name: u16) -> Answer;
+    fn save(&self, record: Record, board: &[u16], output: &mut [u8]) -> Answer;
     fn read(&self, sheet: &[u8], board: &mut [u16]) -> Answer;
 }
 
@@ -22,22 +22,22 @@ impl Calls for Hand {
     fn open(&self, capacity: u16, board: &mut [u16]) -> Answer {
         hand::open(capacity, board)
     }
-    fn add(&self, record: (u16, u16), board: &mut [u16], name: u16, weight: u16) -> Answer {
+    fn add(&self, record: Record, board: &mut [u16], name: u16, weight: u16) -> Answer {
         hand::add(record, board, name, weight)
     }
-    fn remove(&self, record: (u16, u16), board: &mut [u16], name: u16) -> Answer {
+    fn remove(&self, record: Record, board: &mut [u16], name: u16) -> Answer {
         hand::remove(record, board, name)
     }
-    fn slot(&self, record: (u16, u16), board: &[u16]) -> Answer {
+    fn slot(&self, record: Record, board: &[u16]) -> Answer {
         hand::slot(record, board)
     }
-    fn round(&self, record: (u16, u16), board: &[u16], output: &mut [u16]) -> Answer {
+    fn round(&self, record: Record, board: &[u16], output: &mut [u16]) -> Answer {
         hand::round(record, board, output)
     }
-    fn report(&self, record: (u16, u16), board: &[u16], name: u16) -> Answer {
+    fn report(&self, record: Record, board: &[u16], name: u16) -> Answer {
         hand::report(record, board, name)
     }
-    fn save(&self, record: (u16, u16), board: &[u16], output: &mut [u8]) -> Answer {
+    fn save(&self, record: Record, board: &[u16], output: &mut [u8]) -> Answer {
         hand::save(record, board, output)
     }
     fn read(&self, sheet: &[u8], board: &mut [u16]) -> Answer {
@@ -120,7 +120,7 @@ impl<'a, C: Calls> Trial<'a, C> {
         self.same(0, &c, board, |calls, b| calls.open(c, b), |b| letter::open(c, b))
     }
 
-    pub fn add(&mut self, r: (u16, u16), board: &mut [u16], name: u16, weight: u16) -> Answer {
+    pub fn add(&mut self, r: Record, board: &mut [u16], name: u16, weight: u16) -> Answer {
         self.same(
             1,
             &(r, name, weight),
@@ -130,15 +130,15 @@ impl<'a, C: Calls> Trial<'a, C> {
         )
     }
 
-    pub fn remove(&mut self, r: (u16, u16), board: &mut [u16], name: u16) -> Answer {
+    pub fn remove(&mut self, r: Record, board: &mut [u16], name: u16) -> Answer {
         self.same(2, &(r, name), board, |calls, b| calls.remove(r, b, name), |b| letter::remove(r, b, name))
     }
 
-    pub fn slot(&mut self, r: (u16, u16), board: &[u16]) -> Answer {
+    pub fn slot(&mut self, r: Record, board: &[u16]) -> Answer {
         self.same::<u16>(3, &(r, board), &mut [], |calls, _| calls.slot(r, board), |_| letter::slot(r, board))
     }
 
-    pub fn round(&mut self, r: (u16, u16), board: &[u16], output: &mut [u16]) -> Answer {
+    pub fn round(&mut self, r: Record, board: &[u16], output: &mut [u16]) -> Answer {
         self.same(
             4,
             &(r, board),
@@ -148,7 +148,7 @@ impl<'a, C: Calls> Trial<'a, C> {
         )
     }
 
-    pub fn report(&mut self, r: (u16, u16), board: &[u16], name: u16) -> Answer {
+    pub fn report(&mut self, r: Record, board: &[u16], name: u16) -> Answer {
         self.same::<u16>(
             5,
             &(r, board, name),
@@ -158,7 +158,7 @@ impl<'a, C: Calls> Trial<'a, C> {
         )
     }
 
-    pub fn save(&mut self, r: (u16, u16), board: &[u16], output: &mut [u8]) -> Answer {
+    pub fn save(&mut self, r: Record, board: &[u16], output: &mut [u8]) -> Answer {
         self.same(6, &(r, board), output, |calls, o| calls.save(r, board, o), |o| letter::save(r, board, o))
     }
 
@@ -172,11 +172,25 @@ impl<'a, C: Calls> Trial<'a, C> {
         let mut output = [0; 4097];
         for c in 1..4096 {
             output.fill(7);
-            self.round((c, 1), &board, &mut output);
+            self.round(at(c, 1), &board, &mut output);
         }
         for c in 0..70 {
             for p in 0..130 {
-                self.slot((c, p), &board);
+                self.slot(at(c, p), &board);
+            }
+        }
+    }
+
+    /// Rounds slot by slot, from numbers whose next ones have more digits, and from the largest, which 0 follows; and at every position of a round.
+    pub fn rounds(&mut self) {
+        let board: Vec<u16> = (0..70).collect();
+        for c in 1..70 {
+            for round in NUMBERS {
+                let mut record = Record { round, ..at(c, 1) };
+                for _ in 0..2 * c + 1 {
+                    record = self.slot(record, &board).record;
+                }
+                assert_eq!(record.round, round.wrapping_add(2 + u64::from(c == 1)));
             }
         }
     }
@@ -187,11 +201,11 @@ impl<'a, C: Calls> Trial<'a, C> {
             for code in 0..3usize.pow(c.into()) {
                 let board: Vec<u16> = (0..c).map(|i| (code / 3usize.pow(i.into()) % 3) as u16).collect();
                 for name in 0..3 {
-                    self.remove((c, 1), &mut board.clone(), name);
-                    self.report((c, 1), &board, name);
+                    self.remove(at(c, 1), &mut board.clone(), name);
+                    self.report(at(c, 1), &board, name);
                 }
                 for weight in 0..=c {
-                    self.add((c, 1), &mut board.clone(), 3, weight);
+                    self.add(at(c, 1), &mut board.clone(), 3, weight);
                 }
             }
         }
@@ -208,7 +222,7 @@ impl<'a, C: Calls> Trial<'a, C> {
                     let start = random.below(c / size) * size;
                     board[start..start + size].fill(random.pick(&[0, 7000]));
                 }
-                let record = (c as u16, 1);
+                let record = at(c as u16, 1);
                 self.add(record, &mut board.clone(), 9000, size as u16);
                 self.remove(record, &mut board.clone(), 7000);
                 self.report(record, &board, 7000);
@@ -223,11 +237,14 @@ impl<'a, C: Calls> Trial<'a, C> {
         let c = some_capacity(&mut random);
         let mut board: Vec<u16> = (0..usize::from(c) + random.below(4)).map(|_| random.draw() as u16).collect();
         let mut record = self.open(c, &mut board).record;
+        if random.one_in(2) {
+            record.round = some_round(&mut random);
+        }
         let mut names: Vec<u16> = Vec::new();
         let largest = random.pick(&[1, 1, 2, 3, 5, 16, 200, 2000]).min(usize::from(c));
         for _ in 0..if c < 300 { 160 } else { 40 } {
-            if record.1 != 1 && random.one_in(3) {
-                record.1 = 1;
+            if record.position != 1 && random.one_in(3) {
+                record.position = 1;
             }
             match random.below(12) {
                 0..=3 => {
@@ -241,7 +258,7 @@ impl<'a, C: Calls> Trial<'a, C> {
                     match (answer.number, answer.values[0]) {
                         (0, _) => names.push(name),
                         (10, idle) if idle > 0 => {
-                            let asked = self.add(record, &mut board.clone(), name, idle);
+                            let asked = self.add(record, &mut board.clone(), name, idle as u16);
                             assert_eq!(asked.number, 0, "ROOM said {idle}");
                         }
                         _ => {}
@@ -276,25 +293,35 @@ impl<'a, C: Calls> Trial<'a, C> {
     }
 
     /// Every call with a record, a capacity or a length that is wrong, on copies.
-    fn wrong(&mut self, random: &mut Random, record: (u16, u16), board: &[u16], names: &[u16]) {
-        let wrong = [0, 1, record.0.wrapping_sub(1), record.0, record.0 + 1, 4095, 4096, 65535];
+    fn wrong(&mut self, random: &mut Random, record: Record, board: &[u16], names: &[u16]) {
+        let wrong = [
+            0,
+            1,
+            record.capacity.wrapping_sub(1),
+            record.capacity,
+            record.capacity + 1,
+            4095,
+            4096,
+            65535,
+        ];
         let places = [
             0,
             1,
             2,
-            record.1,
-            record.0,
-            record.0.next_power_of_two() - 1,
-            record.0.next_power_of_two(),
-            2 * record.0 - 1,
-            2 * record.0,
+            record.position,
+            record.capacity,
+            record.capacity.next_power_of_two() - 1,
+            record.capacity.next_power_of_two(),
+            2 * record.capacity - 1,
+            2 * record.capacity,
             8191,
             65535,
         ];
-        let r = (
-            if random.one_in(2) { record.0 } else { random.pick(&wrong) },
-            if random.one_in(3) { 1 } else { random.pick(&places) },
-        );
+        let r = Record {
+            capacity: if random.one_in(2) { record.capacity } else { random.pick(&wrong) },
+            position: if random.one_in(3) { 1 } else { random.pick(&places) },
+            round: some_round(random),
+        };
         let lent = if random.one_in(2) {
             board.len()
         } else {
@@ -303,7 +330,7 @@ impl<'a, C: Calls> Trial<'a, C> {
         let board = &board[..lent];
         let name = some_name(random, names);
         let weight = random.pick(&[0, 1, 2, 3, 65535]);
-        self.open(r.0, &mut board.to_vec());
+        self.open(r.capacity, &mut board.to_vec());
         self.add(r, &mut board.to_vec(), name, weight);
         self.remove(r, &mut board.to_vec(), name);
         self.slot(r, board);
@@ -313,7 +340,7 @@ impl<'a, C: Calls> Trial<'a, C> {
     }
 
     /// Every call on a board with a few leaves changed, on copies.
-    fn damaged(&mut self, random: &mut Random, record: (u16, u16), board: &[u16], names: &[u16]) {
+    fn damaged(&mut self, random: &mut Random, record: Record, board: &[u16], names: &[u16]) {
         let mut board = board.to_vec();
         for _ in 0..1 + random.below(3) {
             let at = random.below(board.len());
@@ -326,17 +353,17 @@ impl<'a, C: Calls> Trial<'a, C> {
         self.report(record, &board, name);
         let mut sheet = vec![3; 17 * 512];
         self.save(record, &board, &mut sheet);
-        let bytes = letter::sheet(&board[..record.0.into()]);
+        let bytes = letter::sheet(&board[..record.capacity.into()]);
         self.read(&bytes, &mut board);
     }
 
     /// Saves, reads back, and reads what is left after one damage of each kind.
-    fn sheets(&mut self, random: &mut Random, record: (u16, u16), board: &[u16]) {
-        let c = usize::from(record.0);
+    fn sheets(&mut self, random: &mut Random, record: Record, board: &[u16]) {
+        let c = usize::from(record.capacity);
         let bytes = c.div_ceil(253) * 512;
         let mut output = vec![1; bytes + random.below(3) * 511];
         output.truncate(if random.one_in(4) { bytes - 1 } else { output.len() });
-        self.save((record.0, 1), board, &mut output);
+        self.save(Record { position: 1, ..record }, board, &mut output);
         let sheet = letter::sheet(&board[..c]);
         for kind in 0..14 {
             let mut damaged = sheet.clone();
@@ -358,7 +385,7 @@ impl<'a, C: Calls> Trial<'a, C> {
                 11 => damaged = vec![0; 500 + random.below(30)],
                 12 => damaged
                     .chunks_exact_mut(512)
-                    .for_each(|b| b[2..4].copy_from_slice(&(record.0 ^ 1).to_le_bytes())),
+                    .for_each(|b| b[2..4].copy_from_slice(&(record.capacity ^ 1).to_le_bytes())),
                 _ => damaged[510 + 512 * random.below(bytes / 512)] ^= flip,
             }
             if random.one_in(2) && kind != 13 {
@@ -391,6 +418,17 @@ fn some_capacity(random: &mut Random) -> u16 {
     c as u16
 }
 
+/// Round numbers on both sides of those where a count of 16, 32 or 63 bits would end, and the largest two.
+const NUMBERS: [u64; 9] = [0, 1, 65534, 65535, (1 << 32) - 1, 1 << 32, (1 << 63) - 1, u64::MAX - 1, u64::MAX];
+
+fn some_round(random: &mut Random) -> u64 {
+    if random.one_in(2) {
+        random.pick(&NUMBERS)
+    } else {
+        random.draw()
+    }
+}
+
 fn some_number(random: &mut Random) -> u16 {
     match random.below(4) {
         0 => random.below(3) as u16,
@@ -412,6 +450,7 @@ fn some_name(random: &mut Random, names: &[u16]) -> u16 {
 pub fn compare(calls: &impl Calls, seeds: u64) -> usize {
     let mut trial = Trial::new(calls);
     trial.orders();
+    trial.rounds();
     trial.small_boards();
     trial.two_runs();
     for seed in 0..seeds {

@@ -1,16 +1,16 @@
 //! Document 01's boards worked by hand, run on both plain versions, so that what the library is compared with has been looked at first.
-use paper::{hand, letter, Answer};
+use paper::{at, hand, letter, Answer, Record};
 
-type Add = fn((u16, u16), &mut [u16], u16, u16) -> Answer;
-type Remove = fn((u16, u16), &mut [u16], u16) -> Answer;
-type Round = fn((u16, u16), &[u16], &mut [u16]) -> Answer;
+type Add = fn(Record, &mut [u16], u16, u16) -> Answer;
+type Remove = fn(Record, &mut [u16], u16) -> Answer;
+type Round = fn(Record, &[u16], &mut [u16]) -> Answer;
 
 const BOTH: [(Add, Remove, Round); 2] = [(letter::add, letter::remove, letter::round), (hand::add, hand::remove, hand::round)];
 
 fn order(round: Round, c: u16) -> Vec<u16> {
     let board: Vec<u16> = (0..c).collect();
     let mut out = vec![0; c.into()];
-    assert_eq!(round((c, 1), &board, &mut out).number, 0);
+    assert_eq!(round(at(c, 1), &board, &mut out).number, 0);
     out
 }
 
@@ -30,48 +30,48 @@ fn boards() {
     for (add, remove, round) in BOTH {
         let mut sixteen = [0; 16];
         for (name, weight) in [(1, 1), (2, 2), (3, 4), (4, 4)] {
-            add((16, 1), &mut sixteen, name, weight);
+            add(at(16, 1), &mut sixteen, name, weight);
         }
         let mut out = [0; 16];
-        round((16, 1), &sixteen, &mut out);
+        round(at(16, 1), &sixteen, &mut out);
         assert_eq!(out, [1, 4, 3, 0, 2, 4, 3, 0, 0, 4, 3, 0, 2, 4, 3, 0]);
 
         let mut eight = [1, 2, 3, 4, 5, 6, 7, 8];
-        remove((8, 1), &mut eight, 1);
-        remove((8, 1), &mut eight, 3);
+        remove(at(8, 1), &mut eight, 1);
+        remove(at(8, 1), &mut eight, 3);
         assert_eq!(eight, [4, 2, 0, 0, 5, 6, 7, 8]);
-        assert_eq!(add((8, 1), &mut eight, 9, 2).number, 0);
+        assert_eq!(add(at(8, 1), &mut eight, 9, 2).number, 0);
         assert_eq!(eight, [4, 2, 9, 9, 5, 6, 7, 8]);
 
         let mut three = [0; 3];
         for name in 1..4 {
-            add((3, 1), &mut three, name, 1);
+            add(at(3, 1), &mut three, name, 1);
         }
         assert_eq!(three, [2, 3, 1]);
-        remove((3, 1), &mut three, 1);
-        remove((3, 1), &mut three, 2);
+        remove(at(3, 1), &mut three, 1);
+        remove(at(3, 1), &mut three, 2);
         assert_eq!(three, [0, 0, 3]);
 
         let mut part = [0; 8];
-        assert_eq!(add((8, 1), &mut part, 7, 5).values[0], 3);
+        assert_eq!(add(at(8, 1), &mut part, 7, 5).values[0], 3);
         assert_eq!(part, [7, 7, 7, 7, 7, 0, 0, 0]);
-        assert_eq!(add((8, 1), &mut part, 2, 4), Answer::no_room((8, 1), 3));
-        assert_eq!(add((8, 1), &mut part, 2, 3).number, 0);
+        assert_eq!(add(at(8, 1), &mut part, 2, 4), Answer::no_room(at(8, 1), 3));
+        assert_eq!(add(at(8, 1), &mut part, 2, 3).number, 0);
 
         let mut one = [0];
-        assert_eq!(add((1, 1), &mut one, 5, 1).number, 0);
-        assert_eq!(add((1, 1), &mut one, 6, 1), Answer::no_room((1, 1), 0));
-        assert_eq!(add((1, 1), &mut one, 0, 0).number, 6);
-        assert_eq!(add((1, 1), &mut one, 5, 9).number, 8);
-        assert_eq!(add((2, 1), &mut [4, 0], 4, 1).number, 8);
-        assert_eq!(add((5, 1), &mut [4, 0, 0, 4, 0], 4, 1).number, 5);
+        assert_eq!(add(at(1, 1), &mut one, 5, 1).number, 0);
+        assert_eq!(add(at(1, 1), &mut one, 6, 1), Answer::no_room(at(1, 1), 0));
+        assert_eq!(add(at(1, 1), &mut one, 0, 0).number, 6);
+        assert_eq!(add(at(1, 1), &mut one, 5, 9).number, 8);
+        assert_eq!(add(at(2, 1), &mut [4, 0], 4, 1).number, 8);
+        assert_eq!(add(at(5, 1), &mut [4, 0, 0, 4, 0], 4, 1).number, 5);
 
         let mut seven = [0; 7];
-        assert_eq!(add((7, 1), &mut seven, 1, 8), Answer::no_room((7, 1), 7));
+        assert_eq!(add(at(7, 1), &mut seven, 1, 8), Answer::no_room(at(7, 1), 7));
         assert_eq!(seven, [0; 7]);
 
         let mut full = vec![0; 4095];
-        assert_eq!(add((4095, 1), &mut full, 1, 4095), Answer::done((4095, 1), [0; 3]));
+        assert_eq!(add(at(4095, 1), &mut full, 1, 4095), Answer::done(at(4095, 1), [0; 4]));
     }
     assert_eq!(letter::open(4096, &mut vec![0; 4096]).number, 1);
     assert_eq!(hand::open(4096, &mut vec![0; 4096]).number, 1);
@@ -80,7 +80,7 @@ fn boards() {
 /// Document 02, No. 1: spacing is the longest wait, over the end of the round too. Where C / w rounded up is another number, it stands beside.
 #[test]
 fn spacings() {
-    let boards: [(&[u16], u16, u16); 9] = [
+    let boards: [(&[u16], u16, u64); 9] = [
         (&[7, 7, 7, 0, 0, 0, 0, 0], 7, 4), // 3
         (&[7, 7, 2, 7, 0], 7, 3),          // 2
         (&[7, 7, 2, 7, 0], 2, 5),
@@ -93,8 +93,34 @@ fn spacings() {
     ];
     for (board, name, spacing) in boards {
         for report in [letter::report, hand::report] {
-            let answer = report((board.len() as u16, 1), board, name);
+            let answer = report(at(board.len() as u16, 1), board, name);
             assert_eq!((answer.number, answer.values[2]), (0, spacing), "name {name} on {board:?}");
         }
+    }
+}
+
+/// Request No. 6: C = 1, where each slot is a round; C = 3, where each three are; and the largest number, which 0 follows.
+#[test]
+fn rounds() {
+    for slot in [letter::slot, hand::slot] {
+        let said = |mut record: Record, many: usize| -> Vec<u64> {
+            (0..many)
+                .map(|_| {
+                    let answer = slot(record, &[5, 6, 7]);
+                    record = answer.record;
+                    answer.values[3]
+                })
+                .collect()
+        };
+        assert_eq!(said(at(1, 1), 4), [0, 1, 2, 3]);
+        assert_eq!(said(at(3, 1), 7), [0, 0, 0, 1, 1, 1, 2]);
+        let last = |capacity, position| Record {
+            round: u64::MAX,
+            ..at(capacity, position)
+        };
+        assert_eq!(said(last(1, 1), 3), [u64::MAX, 0, 1]);
+        assert_eq!(said(last(3, 3), 5), [u64::MAX, 0, 0, 0, 1]);
+        // A refused slot says 0 and counts nothing.
+        assert_eq!(slot(last(3, 4), &[5, 6, 7]), Answer::refused(last(3, 4), 3));
     }
 }

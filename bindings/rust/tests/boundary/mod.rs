@@ -1,23 +1,42 @@
 //! The library's functions as a version of the calls, with all that they answer: for the comparison and for the benchmark.
-use mandrozsi::raw::{self, Reply};
+use mandrozsi::raw::{self, Reply, Said};
 use mandrozsi::Drive;
 use paper::trial::Calls;
-use paper::Answer;
+use paper::{Answer, Record};
 
 #[cfg(served)]
 mod served;
 
-pub fn drive((capacity, position): (u16, u16)) -> Drive {
-    Drive { capacity, position }
+pub fn drive(record: Record) -> Drive {
+    Drive {
+        capacity: record.capacity,
+        position: record.position,
+        round: record.round,
+    }
+}
+
+pub fn record(drive: Drive) -> Record {
+    Record {
+        capacity: drive.capacity,
+        position: drive.position,
+        round: drive.round,
+    }
 }
 
 pub struct Boundary;
 
 fn answer(reply: Reply) -> Answer {
+    let Said {
+        number,
+        first,
+        second,
+        third,
+        fourth,
+    } = reply.said;
     Answer {
-        record: (reply.drive.capacity, reply.drive.position),
-        number: reply.number,
-        values: [reply.first, reply.second, reply.third],
+        record: record(reply.drive),
+        number: u16::try_from(number).expect("the library's numbers are small"),
+        values: [first, second, third, fourth],
     }
 }
 
@@ -26,22 +45,22 @@ impl Calls for Boundary {
     fn open(&self, c: u16, board: &mut [u16]) -> Answer {
         answer(unsafe { raw::mandrozsi_open(c, board.as_mut_ptr(), board.len()) })
     }
-    fn add(&self, r: (u16, u16), board: &mut [u16], name: u16, weight: u16) -> Answer {
+    fn add(&self, r: Record, board: &mut [u16], name: u16, weight: u16) -> Answer {
         answer(unsafe { raw::mandrozsi_add(drive(r), board.as_mut_ptr(), board.len(), name, weight) })
     }
-    fn remove(&self, r: (u16, u16), board: &mut [u16], name: u16) -> Answer {
+    fn remove(&self, r: Record, board: &mut [u16], name: u16) -> Answer {
         answer(unsafe { raw::mandrozsi_remove(drive(r), board.as_mut_ptr(), board.len(), name) })
     }
-    fn slot(&self, r: (u16, u16), board: &[u16]) -> Answer {
+    fn slot(&self, r: Record, board: &[u16]) -> Answer {
         answer(unsafe { raw::mandrozsi_slot(drive(r), board.as_ptr(), board.len()) })
     }
-    fn round(&self, r: (u16, u16), board: &[u16], output: &mut [u16]) -> Answer {
+    fn round(&self, r: Record, board: &[u16], output: &mut [u16]) -> Answer {
         answer(unsafe { raw::mandrozsi_round(drive(r), board.as_ptr(), board.len(), output.as_mut_ptr(), output.len()) })
     }
-    fn report(&self, r: (u16, u16), board: &[u16], name: u16) -> Answer {
+    fn report(&self, r: Record, board: &[u16], name: u16) -> Answer {
         answer(unsafe { raw::mandrozsi_report(drive(r), board.as_ptr(), board.len(), name) })
     }
-    fn save(&self, r: (u16, u16), board: &[u16], output: &mut [u8]) -> Answer {
+    fn save(&self, r: Record, board: &[u16], output: &mut [u8]) -> Answer {
         answer(unsafe { raw::mandrozsi_save(drive(r), board.as_ptr(), board.len(), output.as_mut_ptr(), output.len()) })
     }
     fn read(&self, sheet: &[u8], board: &mut [u16]) -> Answer {

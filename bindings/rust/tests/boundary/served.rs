@@ -1,7 +1,7 @@
 //! The library's functions where it cannot be linked: each hands its call to a process that has the library and makes it there
 //! (bindings/c/serve.c, which says the form of a call and an answer). The crate's declarations find these functions at the link, so all that
 //! stands above them is the same as with the library. `MANDROZSI_SERVE` is the command, one word to a line. Each thread has its own process.
-use mandrozsi::raw::Reply;
+use mandrozsi::raw::{Reply, Said};
 use mandrozsi::Drive;
 use std::cell::RefCell;
 use std::io::{Read, Write};
@@ -32,27 +32,34 @@ impl Server {
         })
     }
 
-    /// One call, written whole before its answer is read. The head is the start of serve.c's `struct call`.
-    fn ask(&mut self, head: &[u16], board: Lent, other: Lent) -> Reply {
-        let lengths = [&board, &other].map(|slice| u16::try_from(slice.bytes().len()).expect("a slice of the comparison is short"));
-        let mut call: Vec<u8> = head.iter().chain(&lengths).flat_map(|n| n.to_le_bytes()).collect();
+    /// One call, written whole before its answer is read. The head is what is called, the name and the weight; serve.c's `struct call` has the
+    /// order.
+    fn ask(&mut self, head: [u16; 3], drive: Drive, board: Lent, other: Lent) -> Reply {
+        let [first, second] = [&board, &other].map(|slice| u16::try_from(slice.bytes().len()).expect("a slice of the comparison is short"));
+        let rest = [first, second, drive.capacity, drive.position, 0];
+        let mut call: Vec<u8> = head.iter().chain(&rest).flat_map(|n| n.to_le_bytes()).collect();
+        call.extend_from_slice(&drive.round.to_le_bytes());
         call.extend_from_slice(board.bytes());
         call.extend_from_slice(other.bytes());
-        let mut reply = [0; 12];
+        let mut reply = [0; size_of::<Reply>()];
         let answered = self.calls.write_all(&call).and_then(|()| self.answers.read_exact(&mut reply));
-        answered.unwrap_or_else(|why| panic!("the process ended at the call {head:?}: {why}"));
+        answered.unwrap_or_else(|why| panic!("the process ended at the call {head:?} of {drive:?}: {why}"));
         board.take_back(&mut self.answers);
         other.take_back(&mut self.answers);
-        let number = |i: usize| u16::from_le_bytes([reply[2 * i], reply[2 * i + 1]]);
+        let long = |at: usize| u64::from_le_bytes(reply[at..at + 8].try_into().unwrap());
         Reply {
             drive: Drive {
-                capacity: number(0),
-                position: number(1),
+                capacity: long(0) as u16,
+                position: (long(0) >> 16) as u16,
+                round: long(8),
             },
-            number: number(2),
-            first: number(3),
-            second: number(4),
-            third: number(5),
+            said: Said {
+                number: long(16),
+                first: long(24),
+                second: long(32),
+                third: long(40),
+                fourth: long(48),
+            },
         }
     }
 }
@@ -98,14 +105,17 @@ impl Lent<'_> {
 }
 
 fn ask(call: u16, drive: Drive, name: u16, weight: u16, board: Lent, other: Lent) -> Reply {
-    let head = [call, name, weight, drive.capacity, drive.position];
-    SERVER.with_borrow_mut(|server| server.ask(&head, board, other))
+    SERVER.with_borrow_mut(|server| server.ask([call, name, weight], drive, board, other))
 }
 
 // In the order of serve.c. SAFETY: as raw.rs asks, pointer and length are of one slice.
 #[no_mangle]
 unsafe extern "C" fn mandrozsi_open(capacity: u16, board: *mut u16, entries: usize) -> Reply {
-    ask(0, Drive { capacity, position: 0 }, 0, 0, Lent::changed(board, entries), NONE)
+    let drive = Drive {
+        capacity,
+        ..Drive::default()
+    };
+    ask(0, drive, 0, 0, Lent::changed(board, entries), NONE)
 }
 #[no_mangle]
 unsafe extern "C" fn mandrozsi_add(drive: Drive, board: *mut u16, entries: usize, name: u16, weight: u16) -> Reply {

@@ -9,14 +9,14 @@ use Rattle.exports.proofs.mandrozsi_open.Tie as tie
 open-requires : tie.Need-open-requires
 open-requires c κs = search needs
 
-reply-opening-requires : tie.Need-reply-opening-requires
-reply-opening-requires c κs = search needs
+said-opening-requires : tie.Need-said-opening-requires
+said-opening-requires c κs = search needs
 
 same-length : tie.Need-same-length
 same-length c = search needs
 
 returns : tie.Need-returns
-returns c = (replied (c .reply-opening .ensures) (ap (λ (r : Opened). r .drive) (c .before .before .before .before .«open» .ensures .0)) (c .before .before .before .before .«open» .ensures .1), c .before .before .before .before .«open» .ensures .2)
+returns c = (replied (c .said-opening .ensures) (ap (λ (r : Opened). r .drive) (c .before .before .before .before .«open» .ensures .0)) (c .before .before .before .before .«open» .ensures .1), c .before .before .before .before .«open» .ensures .2)
 
 pub mandrozsi-open-spec : {M : Type 1} → statement M
-mandrozsi-open-spec = tie.close (tie.spec open-requires reply-opening-requires same-length returns)
+mandrozsi-open-spec = tie.close (tie.spec open-requires said-opening-requires same-length returns)

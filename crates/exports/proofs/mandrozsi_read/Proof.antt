@@ -9,14 +9,14 @@ use Rattle.exports.proofs.mandrozsi_read.Tie as tie
 read-requires : tie.Need-read-requires
 read-requires c κs = search needs
 
-reply-loading-requires : tie.Need-reply-loading-requires
-reply-loading-requires c κs = search needs
+said-loading-requires : tie.Need-said-loading-requires
+said-loading-requires c κs = search needs
 
 same-length : tie.Need-same-length
 same-length c = search needs
 
 returns : tie.Need-returns
-returns c = (replied (c .reply-loading .ensures) (ap (λ (r : Loaded). r .drive) (c .before .before .before .before .read .ensures .0)) (c .before .before .before .before .read .ensures .1), c .before .before .before .before .read .ensures .2)
+returns c = (replied (c .said-loading .ensures) (ap (λ (r : Loaded). r .drive) (c .before .before .before .before .read .ensures .0)) (c .before .before .before .before .read .ensures .1), c .before .before .before .before .read .ensures .2)
 
 pub mandrozsi-read-spec : {M : Type 1} → statement M
-mandrozsi-read-spec = tie.close (tie.spec read-requires reply-loading-requires same-length returns)
+mandrozsi-read-spec = tie.close (tie.spec read-requires said-loading-requires same-length returns)

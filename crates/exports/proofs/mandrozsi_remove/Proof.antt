@@ -9,15 +9,15 @@ use Rattle.exports.proofs.mandrozsi_remove.Tie as tie
 remove-requires : tie.Need-remove-requires
 remove-requires c κs = search needs
 
-reply-change-requires : tie.Need-reply-change-requires
-reply-change-requires c κs = search needs
+said-change-requires : tie.Need-said-change-requires
+said-change-requires c κs = search needs
 
 same-length : tie.Need-same-length
 same-length c = search needs
 
 returns : tie.Need-returns
-returns c = (replied (c .reply-change .ensures) (ap (λ (r : Changed). r .drive) (c .before .before .before .before .remove .ensures .0)) (c .before .before .before .before .remove .ensures .1), c .before .before .before .before .remove .ensures .2)
+returns c = (replied (c .said-change .ensures) (ap (λ (r : Changed). r .drive) (c .before .before .before .before .remove .ensures .0)) (c .before .before .before .before .remove .ensures .1), c .before .before .before .before .remove .ensures .2)
 
 pub mandrozsi-remove-spec : {M : Type 1} → statement M
 mandrozsi-remove-spec =
-    tie.close (tie.spec remove-requires reply-change-requires same-length returns)
+    tie.close (tie.spec remove-requires said-change-requires same-length returns)

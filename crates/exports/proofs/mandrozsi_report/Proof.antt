@@ -9,11 +9,11 @@ use Rattle.exports.proofs.mandrozsi_report.Tie as tie
 report-requires : tie.Need-report-requires
 report-requires c κs = search needs
 
-reply-report-requires : tie.Need-reply-report-requires
-reply-report-requires c κs = search needs
+said-report-requires : tie.Need-said-report-requires
+said-report-requires c κs = search needs
 
 returns : tie.Need-returns
-returns c = replied (c .reply-report .ensures) (ap (λ (r : Reported). r .drive) (c .before .before .report .ensures .0)) (c .before .before .report .ensures .1)
+returns c = replied (c .said-report .ensures) (ap (λ (r : Reported). r .drive) (c .before .before .report .ensures .0)) (c .before .before .report .ensures .1)
 
 pub mandrozsi-report-spec : {M : Type 1} → statement M
-mandrozsi-report-spec = tie.close (tie.spec report-requires reply-report-requires returns)
+mandrozsi-report-spec = tie.close (tie.spec report-requires said-report-requires returns)

@@ -9,15 +9,15 @@ use Rattle.exports.proofs.mandrozsi_round.Tie as tie
 round-requires : tie.Need-round-requires
 round-requires c κs = search needs
 
-reply-rounding-requires : tie.Need-reply-rounding-requires
-reply-rounding-requires c κs = search needs
+said-rounding-requires : tie.Need-said-rounding-requires
+said-rounding-requires c κs = search needs
 
 same-length : tie.Need-same-length
 same-length c = search needs
 
 returns : tie.Need-returns
-returns c = (replied (c .reply-rounding .ensures) (ap (λ (r : Rounded). r .drive) (c .before .before .before .before .round .ensures .0)) (c .before .before .before .before .round .ensures .1), c .before .before .before .before .round .ensures .2)
+returns c = (replied (c .said-rounding .ensures) (ap (λ (r : Rounded). r .drive) (c .before .before .before .before .round .ensures .0)) (c .before .before .before .before .round .ensures .1), c .before .before .before .before .round .ensures .2)
 
 pub mandrozsi-round-spec : {M : Type 1} → statement M
 mandrozsi-round-spec =
-    tie.close (tie.spec round-requires reply-rounding-requires same-length returns)
+    tie.close (tie.spec round-requires said-rounding-requires same-length returns)

@@ -1,7 +1,7 @@
 -- `mandrozsi_save` meets its contract. Assumes nothing.
 use mathlib.Core.Path.{ap}
 use Rattle.sheets.specs.declared.Saved.{Saved}
-use Rattle.exports.proofs.Replying.{replied, saved-small}
+use Rattle.exports.proofs.Replying.{replied}
 use borrow.Author.Needs.{needs}
 use Rattle.exports.proofs.mandrozsi_save.Statement.{statement}
 use Rattle.exports.proofs.mandrozsi_save.Tie as tie
@@ -9,14 +9,14 @@ use Rattle.exports.proofs.mandrozsi_save.Tie as tie
 save-requires : tie.Need-save-requires
 save-requires c κs = search needs
 
-reply-saving-requires : tie.Need-reply-saving-requires
-reply-saving-requires c κs = saved-small _ _ _ _ (c .before .before .before .save .ensures .1)
+said-saving-requires : tie.Need-said-saving-requires
+said-saving-requires c κs = search needs
 
 same-length : tie.Need-same-length
 same-length c = search needs
 
 returns : tie.Need-returns
-returns c = (replied (c .reply-saving .ensures) (ap (λ (r : Saved). r .drive) (c .before .before .before .before .save .ensures .0)) (c .before .before .before .before .save .ensures .1), c .before .before .before .before .save .ensures .2)
+returns c = (replied (c .said-saving .ensures) (ap (λ (r : Saved). r .drive) (c .before .before .before .before .save .ensures .0)) (c .before .before .before .before .save .ensures .1), c .before .before .before .before .save .ensures .2)
 
 pub mandrozsi-save-spec : {M : Type 1} → statement M
-mandrozsi-save-spec = tie.close (tie.spec save-requires reply-saving-requires same-length returns)
+mandrozsi-save-spec = tie.close (tie.spec save-requires said-saving-requires same-length returns)

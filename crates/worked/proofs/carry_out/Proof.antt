@@ -54,8 +54,11 @@ add-say-entries c = search needs
 say-entries-requires : tie.Need-say-entries-requires
 say-entries-requires c κs = search needs
 
-new-requires : tie.Need-new-requires
-new-requires c κs = search needs
+long-at-requires : tie.Need-long-at-requires
+long-at-requires c κs = search needs
+
+held-requires : tie.Need-held-requires
+held-requires c κs = search needs
 
 slice-relend-prefix-call : tie.Need-slice-relend-prefix-call
 slice-relend-prefix-call c = search needs
@@ -119,7 +122,8 @@ carry-out-spec =
     cast-say-entries
     add-say-entries
     say-entries-requires
-    new-requires
+    long-at-requires
+    held-requires
     slice-relend-prefix-call
     slice-aggregate-call
     call-requires

@@ -53,17 +53,17 @@ cast-moved c = let s = small (c .before) in omega arith
 moved-requires : tie.Need-moved-requires
 moved-requires c κs = search needs
 
-mul-t9 : tie.Need-mul-t9
-mul-t9 c = let s = small (c .before .before) in omega arith
+mul-t10 : tie.Need-mul-t10
+mul-t10 c = let s = small (c .before .before) in omega arith
 
-shared-slice-read-t14 : tie.Need-shared-slice-read-t14
-shared-slice-read-t14 c = let s = small (c .before .before .before) in omega arith
+shared-slice-read-t12 : tie.Need-shared-slice-read-t12
+shared-slice-read-t12 c = let s = small (c .before .before .before) in omega arith
+
+cast-t14 : tie.Need-cast-t14
+cast-t14 c = let s = small (c .before .before .before) in omega arith
 
 cast-t15 : tie.Need-cast-t15
-cast-t15 c = let s = small (c .before .before .before) in omega arith
-
-cast-t16 : tie.Need-cast-t16
-cast-t16 c = let s = small (c .before .before .before .before) in omega arith
+cast-t15 c = let s = small (c .before .before .before .before) in omega arith
 
 returns : tie.Need-returns
 returns c =
@@ -87,9 +87,9 @@ slot-spec =
     pick-requires
     cast-moved
     moved-requires
-    mul-t9
-    shared-slice-read-t14
+    mul-t10
+    shared-slice-read-t12
+    cast-t14
     cast-t15
-    cast-t16
     returns
     returns-2)

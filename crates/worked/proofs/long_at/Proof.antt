@@ -1,10 +1,10 @@
--- `worked::number_at` meets its contract.
+-- `worked::long_at` meets its contract.
 -- Assumes nothing.
 use Prim.Native.Nat.{_-_}
 use lib.ListN.{length}
 use borrow.Author.Needs.{needs}
-use Rattle.worked.proofs.number_at.Statement.{statement}
-use Rattle.worked.proofs.number_at.Tie as tie
+use Rattle.worked.proofs.long_at.Statement.{statement}
+use Rattle.worked.proofs.long_at.Tie as tie
 
 abbrev Inv-loop : tie.InvT-loop
 Inv-loop line place left₀ inside₀ value₀ i₀ left inside value i = Unit {0}
@@ -18,17 +18,8 @@ loop-holds c = search needs
 shared-slice-read-b : tie.Need-shared-slice-read-b Inv-loop μ-loop
 shared-slice-read-b c = search needs
 
-mul-value : tie.Need-mul-value Inv-loop μ-loop
-mul-value c = search needs
-
-wide-requires : tie.Need-wide-requires Inv-loop μ-loop
-wide-requires c κs = search needs
-
-add-value : tie.Need-add-value Inv-loop μ-loop
-add-value c = search needs
-
-cast-result : tie.Need-cast-result Inv-loop μ-loop
-cast-result c = search needs
+with-digit-requires : tie.Need-with-digit-requires Inv-loop μ-loop
+with-digit-requires c κs = search needs
 
 returns : tie.Need-returns Inv-loop μ-loop
 returns c = search needs
@@ -45,32 +36,25 @@ loop-less c = search needs
 loop-again : tie.Need-loop-again Inv-loop μ-loop
 loop-again c = search needs
 
-cast-result-2 : tie.Need-cast-result-2 Inv-loop μ-loop
-cast-result-2 c = search needs
-
 returns-2 : tie.Need-returns-2 Inv-loop μ-loop
 returns-2 c = search needs
 
 returns-3 : tie.Need-returns-3 Inv-loop μ-loop
 returns-3 c = search needs
 
-pub number-at-spec : {M : Type 1} → statement M
-number-at-spec =
+pub long-at-spec : {M : Type 1} → statement M
+long-at-spec =
     tie.close
     (tie.spec
     Inv-loop
     μ-loop
     loop-holds
     shared-slice-read-b
-    mul-value
-    wide-requires
-    add-value
-    cast-result
+    with-digit-requires
     returns
     sub-left
     add-i
     loop-less
     loop-again
-    cast-result-2
     returns-2
     returns-3)
