@@ -1,4 +1,4 @@
-/* Opens a board, admits two streams, serves a round slot by slot, saves the board and reads it back.
+/* Opens a board, admits two streams, serves a round slot by slot while a change waits, fetches its answer, saves the board and reads it back.
  * It prints what it does, and ends with status 1 at the first answer that is not the one expected. */
 #include <inttypes.h>
 #include <stdio.h>
@@ -22,21 +22,22 @@ static int wrong(const char *what, mandrozsi_reply got)
 int main(void)
 {
     uint16_t board[8], again[8], names[8];
+    uint64_t list[MANDROZSI_LIST] = {0}, other_list[MANDROZSI_LIST] = {0};
     uint8_t sheet[MANDROZSI_BLOCK_BYTES];
     static const uint16_t expected[8] = {7, 7, 7, 2, 7, 2, 7, 2};
 
-    mandrozsi_reply r = mandrozsi_open(8, board, 8);
+    mandrozsi_reply r = mandrozsi_open(8, board, 8, list, MANDROZSI_LIST);
     if (r.said.number != MANDROZSI_DONE || r.drive.capacity != 8 || r.drive.position != 1 || r.drive.round != 0)
         return wrong("open", r);
     mandrozsi_drive drive = r.drive;
 
-    r = mandrozsi_add(drive, board, 8, 7, 5);
+    r = mandrozsi_add(drive, board, 8, list, MANDROZSI_LIST, 7, 5);
     if (r.said.number != MANDROZSI_DONE || r.said.first != 3)
         return wrong("add 7", r);
-    r = mandrozsi_add(drive, board, 8, 2, 4);
+    r = mandrozsi_add(drive, board, 8, list, MANDROZSI_LIST, 2, 4);
     if (r.said.number != MANDROZSI_ROOM || r.said.first != 3)
         return wrong("add 2 with too large a weight", r);
-    r = mandrozsi_add(drive, board, 8, 2, (uint16_t)r.said.first);
+    r = mandrozsi_add(drive, board, 8, list, MANDROZSI_LIST, 2, (uint16_t)r.said.first);
     if (r.said.number != MANDROZSI_DONE || r.said.first != 0)
         return wrong("add 2", r);
 
@@ -45,12 +46,19 @@ int main(void)
         return wrong("report", r);
 
     printf("round:");
+    uint64_t ticket = 0;
     for (size_t i = 0; i < 8; i++) {
-        r = mandrozsi_slot(drive, board, 8);
+        r = mandrozsi_slot(drive, board, 8, list, MANDROZSI_LIST);
         if (r.said.number != MANDROZSI_DONE || r.said.first != expected[i] || r.said.fourth != 0)
             return wrong("slot", r);
         drive = r.drive;
         printf(" %" PRIu64, r.said.first);
+        if (i == 2) {
+            r = mandrozsi_remove(drive, board, 8, list, MANDROZSI_LIST, 2);
+            if (r.said.number != MANDROZSI_WAITING || r.said.first != 1)
+                return wrong("remove in the middle of a round", r);
+            ticket = r.said.first;
+        }
     }
     printf("\n");
     if (drive.position != 1 || drive.round != 1)
@@ -60,19 +68,36 @@ int main(void)
     if (r.said.number != MANDROZSI_DONE || memcmp(names, expected, sizeof names) != 0)
         return wrong("round", r);
 
+    mandrozsi_said said = mandrozsi_fetch(list, MANDROZSI_LIST, ticket);
+    if (said.number != MANDROZSI_WAITING || said.first != ticket)
+        return wrong("fetch before the round starts", (mandrozsi_reply){drive, said});
+    r = mandrozsi_slot(drive, board, 8, list, MANDROZSI_LIST);
+    if (r.said.number != MANDROZSI_DONE || r.said.first != 7 || r.said.fourth != 1)
+        return wrong("the slot that carries the order out", r);
+    said = mandrozsi_fetch(list, MANDROZSI_LIST, ticket);
+    if (said.number != MANDROZSI_DONE || said.first != 3)
+        return wrong("fetch", (mandrozsi_reply){drive, said});
+    said = mandrozsi_fetch(list, MANDROZSI_LIST, ticket);
+    if (said.number != MANDROZSI_TICKET)
+        return wrong("fetch a second time", (mandrozsi_reply){drive, said});
+    printf("stream 2 removed at the start of round 1: 3 leaves idle\n");
+
+    r = mandrozsi_save(r.drive, board, 8, sheet, sizeof sheet);
+    if (r.said.number != MANDROZSI_MIDROUND)
+        return wrong("save in the middle of a round", r);
     r = mandrozsi_save(drive, board, 8, sheet, sizeof sheet);
     if (r.said.number != MANDROZSI_DONE || r.said.first != sizeof sheet)
         return wrong("save", r);
-    r = mandrozsi_read(sheet, sizeof sheet, again, 8);
+    r = mandrozsi_read(sheet, sizeof sheet, again, 8, other_list, MANDROZSI_LIST);
     if (r.said.number != MANDROZSI_DONE || r.drive.capacity != 8 || memcmp(board, again, sizeof board) != 0)
         return wrong("read", r);
     sheet[4] ^= 1;
-    r = mandrozsi_read(sheet, sizeof sheet, again, 8);
+    r = mandrozsi_read(sheet, sizeof sheet, again, 8, other_list, MANDROZSI_LIST);
     if (r.said.number != MANDROZSI_BLOCK || r.drive.capacity != 0)
         return wrong("read of a damaged sheet", r);
 
-    r = mandrozsi_remove(drive, board, 8, 7);
-    if (r.said.number != MANDROZSI_DONE || r.said.first != 5)
+    r = mandrozsi_remove(drive, board, 8, list, MANDROZSI_LIST, 7);
+    if (r.said.number != MANDROZSI_DONE || r.said.first != 8)
         return wrong("remove", r);
     printf("saved, read back, removed: ok\n");
     return 0;

@@ -4,8 +4,16 @@
  * stream's name. No function keeps a pointer, allocates, or has state of its own. A pointer goes with the number of elements behind it and
  * is never null, not even where that number is 0; two slices of one call do not overlap.
  *
- * Every function accepts every input and answers with a reply. A refusal gives its number, zeros for values (but for ROOM the idle leaves)
- * and the record it was given (open and read: a record of zeros), and changes no lent entry. */
+ * An add or a remove is made at once where a round starts (p = 1) and no order waits. At any other position, and behind orders that wait, it
+ * goes on the waiting list: an array of MANDROZSI_LIST 64-bit numbers or more that the caller keeps beside the board and lends. The slot call
+ * at p = 1 carries out the orders that wait, in the order of their arrival, before it picks its leaf, and leaves each answer to be fetched
+ * once by its ticket. The list holds 64 places, each taken by an order that waits or by an answer that was not fetched. As many zeros are an
+ * empty list; numbers beyond MANDROZSI_LIST are never changed. Tickets count up from 1 and none is given twice. Let only these calls write the
+ * board, the list and the record, and give each call what the last one left.
+ *
+ * Every function accepts every input and answers with a reply. A refusal gives its number, zeros for values (but 10 the idle leaves there are)
+ * and the record it was given (open and read: a record of zeros), and changes no lent entry. 13 is no refusal: the order waits, and of all
+ * that is lent the list alone has changed. */
 #ifndef MANDROZSI_H
 #define MANDROZSI_H
 
@@ -20,6 +28,9 @@ extern "C" {
 #define MANDROZSI_LARGEST 4095
 #define MANDROZSI_BLOCK_BYTES 512
 #define MANDROZSI_LEAVES_PER_BLOCK 253
+
+/* The numbers of a waiting list: the last ticket given, how many answers are to be fetched, how many orders wait, and 64 places of four. */
+#define MANDROZSI_LIST 259
 
 /* The drive record: the capacity C; the position p, 1 to 2^k - 1, where C has k binary digits; and the number of the round that the slot at
  * p belongs to, 0 at open and read, one more each time p returns to 1, and 0 again after the largest. A round starts at p = 1. Only slot,
@@ -49,9 +60,9 @@ typedef struct mandrozsi_reply {
 enum mandrozsi_number {
     MANDROZSI_DONE = 0,
     MANDROZSI_CAPACITY = 1,  /* C is 0 or above 4,095 */
-    MANDROZSI_SHORT = 2,     /* the board has fewer than C entries */
+    MANDROZSI_SHORT = 2,     /* the board has fewer than C entries, or the list fewer than MANDROZSI_LIST numbers */
     MANDROZSI_POSITION = 3,  /* p is 0 or above 2^k - 1 */
-    MANDROZSI_MIDROUND = 4,  /* p is not 1 */
+    MANDROZSI_MIDROUND = 4,  /* p is not 1 (save) */
     MANDROZSI_DAMAGED = 5,   /* the board is not good: two pieces of one name, or two idle ones, have equal size */
     MANDROZSI_NAME = 6,      /* the name is 0 */
     MANDROZSI_WEIGHT = 7,    /* the weight is 0 */
@@ -59,25 +70,31 @@ enum mandrozsi_number {
     MANDROZSI_ABSENT = 9,    /* no leaf holds the name */
     MANDROZSI_ROOM = 10,     /* the weight exceeds the number of idle leaves: first = that number */
     MANDROZSI_OUTPUT = 11,   /* the lent output is too short */
-    MANDROZSI_BLOCK = 12     /* a sheet breaks its layout */
+    MANDROZSI_BLOCK = 12,    /* a sheet breaks its layout */
+    MANDROZSI_WAITING = 13,  /* the order waits under a ticket */
+    MANDROZSI_QUEUE = 14,    /* no order can wait: the 64 places are taken, or the tickets are used up */
+    MANDROZSI_TICKET = 15    /* no order and no answer on the list has the ticket */
 };
 
-/* Makes the first `capacity` entries idle. Done: a record at p = 1, of round 0.
+/* Makes the first `capacity` entries idle and empties the list, answers too; tickets count on. Done: a record at p = 1, of round 0.
  * Refused: 1, 2. */
-mandrozsi_reply mandrozsi_open(uint16_t capacity, uint16_t *board, size_t entries);
+mandrozsi_reply mandrozsi_open(uint16_t capacity, uint16_t *board, size_t entries, uint64_t *list, size_t numbers);
 
-/* Admits a stream: its weight in leaves, each power of two at the low end of the smallest idle piece. Done: first = the idle leaves left.
- * Refused: 1 to 8; 10, first = the idle leaves there are. */
-mandrozsi_reply mandrozsi_add(mandrozsi_drive drive, uint16_t *board, size_t entries, uint16_t name, uint16_t weight);
+/* Admits a stream: its weight in leaves, each power of two at the low end of the smallest idle piece. Made at once: first = the idle leaves
+ * left. Waiting (13): first = the ticket.
+ * Refused: 1 to 3, 5 to 7; then 14 where it would wait; where it is made at once 8 and 10, first = the idle leaves there are. */
+mandrozsi_reply mandrozsi_add(mandrozsi_drive drive, uint16_t *board, size_t entries, uint64_t *list, size_t numbers, uint16_t name,
+                              uint16_t weight);
 
-/* Makes a stream's leaves idle and tidies the board. Done: first = the idle leaves left.
- * Refused: 1 to 6, 9. */
-mandrozsi_reply mandrozsi_remove(mandrozsi_drive drive, uint16_t *board, size_t entries, uint16_t name);
+/* Makes a stream's leaves idle and tidies the board. Made at once: first = the idle leaves left. Waiting (13): first = the ticket.
+ * Refused: 1 to 3, 5, 6; then 14 where it would wait, 9 where it is made at once. */
+mandrozsi_reply mandrozsi_remove(mandrozsi_drive drive, uint16_t *board, size_t entries, uint64_t *list, size_t numbers, uint16_t name);
 
-/* Serves the slot at p, on any board. Done: first = the name, second = the leaf, third = the terms passed over, fourth = the number of the
- * round that the slot belongs to; the record has moved on.
+/* Serves the slot at p, on any board. At p = 1 the orders that wait are carried out first, and their answers left on the list. Done: first =
+ * the name, second = the leaf, third = the terms passed over, fourth = the number of the round that the slot belongs to; the record has moved
+ * on: keep it.
  * Refused: 1 to 3. */
-mandrozsi_reply mandrozsi_slot(mandrozsi_drive drive, const uint16_t *board, size_t entries);
+mandrozsi_reply mandrozsi_slot(mandrozsi_drive drive, uint16_t *board, size_t entries, uint64_t *list, size_t numbers);
 
 /* Writes the C names of a full round from p = 1 to the start of the output and nothing beyond them; p is unchanged.
  * Refused: 1 to 3, 11. */
@@ -92,9 +109,14 @@ mandrozsi_reply mandrozsi_report(mandrozsi_drive drive, const uint16_t *board, s
  * Refused: 1 to 5, 11. */
 mandrozsi_reply mandrozsi_save(mandrozsi_drive drive, const uint16_t *board, size_t entries, uint8_t *output, size_t length);
 
-/* Sets the leaves of a board to those of a sheet. Done: a record at p = 1, of round 0.
+/* Sets the leaves of a board to those of a sheet and empties the list, answers too; tickets count on. Done: a record at p = 1, of round 0.
  * Refused, looked for in this order: 12 (under 512 bytes), 1, 2, 12 (anything else of the layout), 5. */
-mandrozsi_reply mandrozsi_read(const uint8_t *sheet, size_t length, uint16_t *board, size_t entries);
+mandrozsi_reply mandrozsi_read(const uint8_t *sheet, size_t length, uint16_t *board, size_t entries, uint64_t *list, size_t numbers);
+
+/* Fetches what an order was answered when it was carried out: that answer's number, and first = its value. Its place is then free, and the
+ * ticket is known no longer. It looks at nothing but the list.
+ * 13, first = the ticket: the order waits. 15: no such ticket, or a list that is too short. */
+mandrozsi_said mandrozsi_fetch(uint64_t *list, size_t numbers, uint64_t ticket);
 
 #ifdef __cplusplus
 }

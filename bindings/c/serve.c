@@ -1,7 +1,7 @@
 /* Makes the library's calls for another process: for the comparison from Rust (bindings/rust/tests/boundary/served.rs) on a machine whose
  * Rust cannot link the archive. It reads calls on standard input until it ends, and answers each on standard output:
  *
- *   a call    struct call below, then the bytes of the board, then the bytes of the output or sheet
+ *   a call    struct call below, then the bytes of the board, of the list, and of the output or sheet
  *   an answer mandrozsi_reply, then the same bytes as the call left them
  *
  * Numbers lie as in memory, so both ends must keep the low byte first. Every slice is lent where it ends against a page that cannot be
@@ -18,11 +18,11 @@
 /* The most bytes of a slice and of the page behind it (a multiple of any page size in use), and the marked bytes before a slice. */
 enum { ROOM = 65536, MARKED = 64, MARK = 0xA5 };
 
-enum { OPEN, ADD, REMOVE, SLOT, ROUND, REPORT, SAVE, READ };
+enum { OPEN, ADD, REMOVE, SLOT, ROUND, REPORT, SAVE, READ, FETCH };
 
-/* What is called, with what; the bytes of the two slices, 0 for the second where the call has none; and the record. */
+/* What is called, with what; the bytes of the three slices, 0 where the call has none; and the record, or the ticket in place of its round. */
 struct call {
-    uint16_t number, name, weight, board_bytes, other_bytes, capacity, position, none;
+    uint16_t number, name, weight, board_bytes, list_bytes, other_bytes, capacity, position;
     uint64_t round;
 };
 _Static_assert(sizeof(struct call) == 24, "a call is eight 16-bit numbers and one of 64 bits");
@@ -63,33 +63,35 @@ static void give_back(const uint8_t *slice, size_t bytes)
         end("an answer cannot be written");
 }
 
-static mandrozsi_reply make(const struct call *c, uint16_t *board, uint8_t *other)
+static mandrozsi_reply make(const struct call *c, uint16_t *board, uint64_t *list, uint8_t *other)
 {
-    size_t entries = c->board_bytes / sizeof *board, length = c->other_bytes;
+    size_t entries = c->board_bytes / sizeof *board, numbers = c->list_bytes / sizeof *list, length = c->other_bytes;
     mandrozsi_drive drive = {c->capacity, c->position, c->round};
     switch (c->number) {
-    case OPEN: return mandrozsi_open(c->capacity, board, entries);
-    case ADD: return mandrozsi_add(drive, board, entries, c->name, c->weight);
-    case REMOVE: return mandrozsi_remove(drive, board, entries, c->name);
-    case SLOT: return mandrozsi_slot(drive, board, entries);
+    case OPEN: return mandrozsi_open(c->capacity, board, entries, list, numbers);
+    case ADD: return mandrozsi_add(drive, board, entries, list, numbers, c->name, c->weight);
+    case REMOVE: return mandrozsi_remove(drive, board, entries, list, numbers, c->name);
+    case SLOT: return mandrozsi_slot(drive, board, entries, list, numbers);
     case ROUND: return mandrozsi_round(drive, board, entries, (uint16_t *)(void *)other, length / sizeof(uint16_t));
     case REPORT: return mandrozsi_report(drive, board, entries, c->name);
     case SAVE: return mandrozsi_save(drive, board, entries, other, length);
-    case READ: return mandrozsi_read(other, length, board, entries);
+    case READ: return mandrozsi_read(other, length, board, entries, list, numbers);
+    case FETCH: return (mandrozsi_reply){{0, 0, 0}, mandrozsi_fetch(list, numbers, c->round)};
     }
     end("there is no such call");
 }
 
 int main(void)
 {
-    uint8_t *first = room(), *second = room();
+    uint8_t *first = room(), *second = room(), *third = room();
     struct call c;
     while (fread(&c, sizeof c, 1, stdin) == 1) {
-        uint8_t *board = lend(first, c.board_bytes), *other = lend(second, c.other_bytes);
-        mandrozsi_reply reply = make(&c, (uint16_t *)(void *)board, other);
+        uint8_t *board = lend(first, c.board_bytes), *list = lend(second, c.list_bytes), *other = lend(third, c.other_bytes);
+        mandrozsi_reply reply = make(&c, (uint16_t *)(void *)board, (uint64_t *)(void *)list, other);
         if (fwrite(&reply, sizeof reply, 1, stdout) != 1)
             end("an answer cannot be written");
         give_back(board, c.board_bytes);
+        give_back(list, c.list_bytes);
         give_back(other, c.other_bytes);
         if (fflush(stdout) != 0)
             end("an answer cannot be written");

@@ -4,15 +4,24 @@
 //! numbers that the caller keeps: a slice is passed as it is, and nothing is copied. Every call accepts every input; a refused one changes
 //! neither the record nor a lent slice.
 //!
-//! ```no_run
-//! use mandrozsi::{Drive, Refusal};
+//! An add or a remove is made at once where a round starts and no order waits. At any other position it goes on a waiting list, a slice of 64-bit
+//! numbers that the caller keeps beside the board, and the slot call that starts the next round carries it out; its answer is fetched by a ticket.
 //!
-//! let mut board = [0u16; 8];
-//! let mut drive = Drive::open(8, &mut board)?;
-//! assert_eq!(drive.add(&mut board, 7, 5)?, 3); // stream 7 has 5 of 8 slots, 3 are idle
-//! assert_eq!(drive.add(&mut board, 2, 4), Err(Refusal::Room { idle: 3 }));
-//! assert_eq!(drive.slot(&board)?.name, 7); // the record has moved on
-//! assert_eq!(drive.remove(&mut board, 7), Err(Refusal::Midround));
+//! ```no_run
+//! use mandrozsi::{fetch, Change, Drive, Fetched, Refusal, LIST};
+//!
+//! let (mut board, mut list) = ([0u16; 8], [0u64; LIST]);
+//! let mut drive = Drive::open(8, &mut board, &mut list)?;
+//! assert_eq!(drive.add(&mut board, &mut list, 7, 5)?, Change::Done { idle: 3 }); // stream 7 has 5 of 8 slots, 3 are idle
+//! assert_eq!(drive.add(&mut board, &mut list, 2, 4), Err(Refusal::Room { idle: 3 }));
+//! assert_eq!(drive.slot(&mut board, &mut list)?.name, 7); // the record has moved on: the round runs
+//! assert_eq!(drive.remove(&mut board, &mut list, 7)?, Change::Waiting { ticket: 1 });
+//! while drive.round == 0 {
+//!     drive.slot(&mut board, &mut list)?;
+//! }
+//! assert_eq!(fetch(&mut list, 1), Fetched::Waiting);
+//! drive.slot(&mut board, &mut list)?; // the next round's first slot: the order is carried out before it is picked
+//! assert_eq!(fetch(&mut list, 1), Fetched::Done { idle: 8 });
 //! # Ok::<(), Refusal>(())
 //! ```
 use std::fmt;
@@ -36,11 +45,11 @@ pub struct Drive {
 pub enum Refusal {
     /// C is 0 or above 4,095.
     Capacity,
-    /// The board has fewer than C entries.
+    /// The board has fewer than C entries, or the list fewer than [`LIST`] numbers.
     Short,
     /// p is 0 or above 2^k - 1.
     Position,
-    /// p is not 1: a board is changed and saved only at the start of a round.
+    /// p is not 1: a board is saved only at the start of a round.
     Midround,
     /// The board is not good: two pieces of one name, or two idle ones, have equal size.
     Damaged,
@@ -58,11 +67,15 @@ pub enum Refusal {
     Output,
     /// A sheet breaks its layout.
     Block,
+    /// No order can wait: the 64 places are taken, by orders and by answers that nobody fetched, or the tickets are used up.
+    Queue,
+    /// No order and no answer on the list has the ticket.
+    Ticket,
 }
 
 impl Refusal {
     /// Every refusal, in the order of the numbers; `Room` on a full board.
-    pub const ALL: [Refusal; 12] = [
+    pub const ALL: [Refusal; 14] = [
         Refusal::Capacity,
         Refusal::Short,
         Refusal::Position,
@@ -75,9 +88,11 @@ impl Refusal {
         Refusal::Room { idle: 0 },
         Refusal::Output,
         Refusal::Block,
+        Refusal::Queue,
+        Refusal::Ticket,
     ];
 
-    /// The number, 1 to 12.
+    /// The number: 1 to 12, 14 and 15. (13 is WAITING, which is no refusal here.)
     pub const fn number(self) -> u16 {
         match self {
             Refusal::Capacity => 1,
@@ -92,6 +107,8 @@ impl Refusal {
             Refusal::Room { .. } => 10,
             Refusal::Output => 11,
             Refusal::Block => 12,
+            Refusal::Queue => 14,
+            Refusal::Ticket => 15,
         }
     }
 
@@ -105,7 +122,7 @@ impl Refusal {
 
     /// The refusal of a number and the value that goes with it, if the number is one's.
     pub fn from_number(number: u16, value: u16) -> Option<Refusal> {
-        match Refusal::ALL.get(usize::from(number).checked_sub(1)?)? {
+        match Refusal::ALL.iter().find(|refusal| refusal.number() == number)? {
             Refusal::Room { .. } => Some(Refusal::Room { idle: value }),
             other => Some(*other),
         }
@@ -116,7 +133,7 @@ impl fmt::Display for Refusal {
     fn fmt(&self, f: &mut fmt::Formatter<'_>) -> fmt::Result {
         match self {
             Refusal::Capacity => write!(f, "the capacity is 0 or above 4,095"),
-            Refusal::Short => write!(f, "the board has fewer entries than the capacity"),
+            Refusal::Short => write!(f, "the board has fewer entries than the capacity, or the list is too short"),
             Refusal::Position => write!(f, "the position is out of range"),
             Refusal::Midround => write!(f, "not at the start of a round"),
             Refusal::Damaged => write!(f, "the board is not good"),
@@ -127,12 +144,54 @@ impl fmt::Display for Refusal {
             Refusal::Room { idle } => write!(f, "the weight exceeds the idle leaves, which are {idle}"),
             Refusal::Output => write!(f, "the output is too short"),
             Refusal::Block => write!(f, "the sheet breaks its layout"),
+            Refusal::Queue => write!(f, "no order can wait"),
+            Refusal::Ticket => write!(f, "there is no such ticket"),
         }?;
         write!(f, " ({})", self.number())
     }
 }
 
 impl std::error::Error for Refusal {}
+
+/// The numbers of a waiting list: a lent slice has as many or more, and what is beyond them is never changed. As many zeros are an empty list.
+pub const LIST: usize = 259;
+
+/// What an add or a remove came to: made at once, with the idle leaves left, or waiting under a ticket.
+#[derive(Clone, Copy, Debug, PartialEq, Eq)]
+pub enum Change {
+    Done { idle: u16 },
+    Waiting { ticket: u64 },
+}
+
+/// What a fetch found: the order was done, with the idle leaves left then, or refused when it was carried out; it still waits; or no such ticket.
+#[derive(Clone, Copy, Debug, PartialEq, Eq)]
+pub enum Fetched {
+    Done {
+        idle: u16,
+    },
+    Refused(Refusal),
+    Waiting,
+    Unknown,
+    /// An answer that no call leaves: the list was written by something else.
+    Foreign {
+        number: u64,
+        value: u64,
+    },
+}
+
+/// Fetches the answer of an order by its ticket, once: its place is free again. It looks at nothing but the list.
+pub fn fetch(list: &mut [u64], ticket: u64) -> Fetched {
+    // SAFETY: pointer and length are of one slice, lent for the call alone. So below.
+    let Said { number, first, .. } = unsafe { raw::mandrozsi_fetch(list.as_mut_ptr(), list.len(), ticket) };
+    let refusal = u16::try_from(number).ok().and_then(|n| Refusal::from_number(n, short(first)));
+    match (number, refusal) {
+        (0, _) if first <= u16::MAX.into() => Fetched::Done { idle: short(first) },
+        (13, _) if first == ticket => Fetched::Waiting,
+        (15, _) if first == 0 => Fetched::Unknown,
+        (1..=12, Some(refusal)) if u64::from(refusal.value()) == first => Fetched::Refused(refusal),
+        _ => Fetched::Foreign { number, value: first },
+    }
+}
 
 /// One slot: the stream served (0: none), the leaf it was found at, the terms of the sequence passed over, 0 or 1, and the number of its round.
 #[derive(Clone, Copy, Debug, PartialEq, Eq)]
@@ -157,7 +216,7 @@ impl Reply {
     pub fn done(self) -> Result<Reply, Refusal> {
         match self.said.number {
             0 => Ok(self),
-            number => Err(Refusal::from_number(short(number), short(self.said.first)).expect("the library's numbers are 0 to 12")),
+            number => Err(Refusal::from_number(short(number), short(self.said.first)).expect("the library's numbers are 0 to 15")),
         }
     }
 }
@@ -165,6 +224,15 @@ impl Reply {
 /// A number, a name, a leaf or a count of leaves: the library's are below 65,536.
 fn short(value: u64) -> u16 {
     value as u16
+}
+
+fn changed(reply: Reply) -> Result<Change, Refusal> {
+    if reply.said.number == 13 {
+        return Ok(Change::Waiting { ticket: reply.said.first });
+    }
+    Ok(Change::Done {
+        idle: short(reply.done()?.said.first),
+    })
 }
 
 impl Drive {
@@ -175,28 +243,29 @@ impl Drive {
     /// The leaves of a sheet's block.
     pub const LEAVES_PER_BLOCK: usize = 253;
 
-    /// Makes the first `capacity` entries of a board idle: a record at the start of a round. Refused: 1, 2.
-    pub fn open(capacity: u16, board: &mut [u16]) -> Result<Drive, Refusal> {
-        // SAFETY: pointer and length are of one slice, lent for the call alone. So below.
-        let reply = unsafe { raw::mandrozsi_open(capacity, board.as_mut_ptr(), board.len()) };
+    /// Makes the first `capacity` entries of a board idle, and empties the list: a record at the start of a round. Refused: 1, 2.
+    pub fn open(capacity: u16, board: &mut [u16], list: &mut [u64]) -> Result<Drive, Refusal> {
+        let reply = unsafe { raw::mandrozsi_open(capacity, board.as_mut_ptr(), board.len(), list.as_mut_ptr(), list.len()) };
         Ok(reply.done()?.drive)
     }
 
-    /// Admits a stream: the idle leaves left. Refused: 1 to 8, 10 with the idle leaves there are.
-    pub fn add(self, board: &mut [u16], name: u16, weight: u16) -> Result<u16, Refusal> {
-        let reply = unsafe { raw::mandrozsi_add(self, board.as_mut_ptr(), board.len(), name, weight) };
-        Ok(short(reply.done()?.said.first))
+    /// Admits a stream, at once or when its order is carried out. Refused: 1 to 3, 5 to 7; 14 where it would wait; 8, 10 where it is made at once.
+    pub fn add(self, board: &mut [u16], list: &mut [u64], name: u16, weight: u16) -> Result<Change, Refusal> {
+        let (entries, numbers) = (board.len(), list.len());
+        changed(unsafe { raw::mandrozsi_add(self, board.as_mut_ptr(), entries, list.as_mut_ptr(), numbers, name, weight) })
     }
 
-    /// Removes a stream and tidies the board: the idle leaves left. Refused: 1 to 6, 9.
-    pub fn remove(self, board: &mut [u16], name: u16) -> Result<u16, Refusal> {
-        let reply = unsafe { raw::mandrozsi_remove(self, board.as_mut_ptr(), board.len(), name) };
-        Ok(short(reply.done()?.said.first))
+    /// Removes a stream and tidies the board, at once or when its order is carried out. Refused: 1 to 3, 5, 6; 14 where it would wait; 9 where it is
+    /// made at once.
+    pub fn remove(self, board: &mut [u16], list: &mut [u64], name: u16) -> Result<Change, Refusal> {
+        let (entries, numbers) = (board.len(), list.len());
+        changed(unsafe { raw::mandrozsi_remove(self, board.as_mut_ptr(), entries, list.as_mut_ptr(), numbers, name) })
     }
 
-    /// Serves the slot at the position, and moves the record on. Any board will do, good or not. Refused: 1 to 3.
-    pub fn slot(&mut self, board: &[u16]) -> Result<Slot, Refusal> {
-        let reply = unsafe { raw::mandrozsi_slot(*self, board.as_ptr(), board.len()) };
+    /// Serves the slot at the position, and moves the record on. At the start of a round the orders that wait are carried out first. Any board will
+    /// do, good or not. Refused: 1 to 3.
+    pub fn slot(&mut self, board: &mut [u16], list: &mut [u64]) -> Result<Slot, Refusal> {
+        let reply = unsafe { raw::mandrozsi_slot(*self, board.as_mut_ptr(), board.len(), list.as_mut_ptr(), list.len()) };
         let Reply { drive, said } = reply.done()?;
         *self = drive;
         Ok(Slot {
@@ -230,9 +299,11 @@ impl Drive {
         Ok(reply.done()?.said.first as usize)
     }
 
-    /// Sets the leaves of a board to those of a sheet: a record at the start of a round. Refused: 12 (under 512 bytes), 1, 2, 12, 5, in this order.
-    pub fn read(sheet: &[u8], board: &mut [u16]) -> Result<Drive, Refusal> {
-        let reply = unsafe { raw::mandrozsi_read(sheet.as_ptr(), sheet.len(), board.as_mut_ptr(), board.len()) };
+    /// Sets the leaves of a board to those of a sheet, and empties the list: a record at the start of a round. Refused: 12 (under 512 bytes), 1, 2,
+    /// 12, 5, in this order.
+    pub fn read(sheet: &[u8], board: &mut [u16], list: &mut [u64]) -> Result<Drive, Refusal> {
+        let (entries, numbers) = (board.len(), list.len());
+        let reply = unsafe { raw::mandrozsi_read(sheet.as_ptr(), sheet.len(), board.as_mut_ptr(), entries, list.as_mut_ptr(), numbers) };
         Ok(reply.done()?.drive)
     }
 

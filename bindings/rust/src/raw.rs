@@ -22,12 +22,13 @@ pub struct Reply {
 }
 
 extern "C" {
-    pub fn mandrozsi_open(capacity: u16, board: *mut u16, entries: usize) -> Reply;
-    pub fn mandrozsi_add(drive: Drive, board: *mut u16, entries: usize, name: u16, weight: u16) -> Reply;
-    pub fn mandrozsi_remove(drive: Drive, board: *mut u16, entries: usize, name: u16) -> Reply;
-    pub fn mandrozsi_slot(drive: Drive, board: *const u16, entries: usize) -> Reply;
+    pub fn mandrozsi_open(capacity: u16, board: *mut u16, entries: usize, list: *mut u64, numbers: usize) -> Reply;
+    pub fn mandrozsi_add(drive: Drive, board: *mut u16, entries: usize, list: *mut u64, numbers: usize, name: u16, weight: u16) -> Reply;
+    pub fn mandrozsi_remove(drive: Drive, board: *mut u16, entries: usize, list: *mut u64, numbers: usize, name: u16) -> Reply;
+    pub fn mandrozsi_slot(drive: Drive, board: *mut u16, entries: usize, list: *mut u64, numbers: usize) -> Reply;
     pub fn mandrozsi_round(drive: Drive, board: *const u16, entries: usize, output: *mut u16, length: usize) -> Reply;
     pub fn mandrozsi_report(drive: Drive, board: *const u16, entries: usize, name: u16) -> Reply;
     pub fn mandrozsi_save(drive: Drive, board: *const u16, entries: usize, output: *mut u8, length: usize) -> Reply;
-    pub fn mandrozsi_read(sheet: *const u8, length: usize, board: *mut u16, entries: usize) -> Reply;
+    pub fn mandrozsi_read(sheet: *const u8, length: usize, board: *mut u16, entries: usize, list: *mut u64, numbers: usize) -> Reply;
+    pub fn mandrozsi_fetch(list: *mut u64, numbers: usize, ticket: u64) -> Said;
 }

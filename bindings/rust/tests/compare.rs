@@ -3,7 +3,7 @@
 mod boundary;
 
 use boundary::{drive, record, Boundary};
-use mandrozsi::{Drive, Refusal};
+use mandrozsi::{fetch, Change, Drive, Fetched, Refusal};
 use paper::trial::{compare, Calls};
 use paper::{at, Answer, Record};
 
@@ -24,19 +24,32 @@ fn told<T>(before: Record, result: Result<T, Refusal>, done: impl FnOnce(T) -> (
     }
 }
 
+fn change(r: Record, result: Result<Change, Refusal>) -> Answer {
+    match result {
+        Ok(Change::Waiting { ticket }) => Answer {
+            values: [ticket, 0, 0, 0],
+            ..Answer::refused(r, 13)
+        },
+        other => told(r, other, |done| match done {
+            Change::Done { idle } => (r, [idle.into(), 0, 0, 0]),
+            Change::Waiting { .. } => unreachable!(),
+        }),
+    }
+}
+
 impl Calls for Safe {
-    fn open(&self, c: u16, board: &mut [u16]) -> Answer {
-        told(at(0, 0), Drive::open(c, board), |d| (record(d), [0; 4]))
+    fn open(&self, c: u16, board: &mut [u16], list: &mut [u64]) -> Answer {
+        told(at(0, 0), Drive::open(c, board, list), |d| (record(d), [0; 4]))
     }
-    fn add(&self, r: Record, board: &mut [u16], name: u16, weight: u16) -> Answer {
-        told(r, drive(r).add(board, name, weight), |idle| (r, [idle.into(), 0, 0, 0]))
+    fn add(&self, r: Record, board: &mut [u16], list: &mut [u64], name: u16, weight: u16) -> Answer {
+        change(r, drive(r).add(board, list, name, weight))
     }
-    fn remove(&self, r: Record, board: &mut [u16], name: u16) -> Answer {
-        told(r, drive(r).remove(board, name), |idle| (r, [idle.into(), 0, 0, 0]))
+    fn remove(&self, r: Record, board: &mut [u16], list: &mut [u64], name: u16) -> Answer {
+        change(r, drive(r).remove(board, list, name))
     }
-    fn slot(&self, r: Record, board: &[u16]) -> Answer {
+    fn slot(&self, r: Record, board: &mut [u16], list: &mut [u64]) -> Answer {
         let mut d = drive(r);
-        let result = d.slot(board);
+        let result = d.slot(board, list);
         told(record(d), result, |slot| {
             (record(d), [slot.name.into(), slot.leaf.into(), slot.passed.into(), slot.round])
         })
@@ -55,8 +68,17 @@ impl Calls for Safe {
             (r, [bytes as u64, 0, 0, 0])
         })
     }
-    fn read(&self, sheet: &[u8], board: &mut [u16]) -> Answer {
-        told(at(0, 0), Drive::read(sheet, board), |d| (record(d), [0; 4]))
+    fn read(&self, sheet: &[u8], board: &mut [u16], list: &mut [u64]) -> Answer {
+        told(at(0, 0), Drive::read(sheet, board, list), |d| (record(d), [0; 4]))
+    }
+    fn fetch(&self, list: &mut [u64], ticket: u64) -> (u64, u64) {
+        match fetch(list, ticket) {
+            Fetched::Done { idle } => (0, idle.into()),
+            Fetched::Refused(why) => (why.number().into(), why.value().into()),
+            Fetched::Waiting => (13, ticket),
+            Fetched::Unknown => (15, 0),
+            Fetched::Foreign { number, value } => (number, value),
+        }
     }
 }
 

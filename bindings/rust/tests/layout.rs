@@ -1,6 +1,6 @@
 //! The Rust types against the C header: the header is read, and its structs, numbers and functions are held to what this crate has.
 use mandrozsi::raw::{Reply, Said};
-use mandrozsi::{Drive, Refusal};
+use mandrozsi::{Drive, Refusal, LIST};
 use std::mem::{align_of, offset_of, size_of};
 
 const HEADER: &str = include_str!("../../c/mandrozsi.h");
@@ -80,8 +80,10 @@ fn numbers() {
         .map(|line| line.trim().split_once(" = ").expect("NAME = number"))
         .collect();
     assert_eq!(lines[0], ("MANDROZSI_DONE", "0"));
-    assert_eq!(lines.len(), 13);
-    for (refusal, (name, number)) in Refusal::ALL.iter().zip(&lines[1..]) {
+    assert_eq!(lines[13], ("MANDROZSI_WAITING", "13"));
+    assert_eq!(lines.len(), 16);
+    let refusals = lines[1..].iter().filter(|line| line.1 != "13");
+    for (refusal, (name, number)) in Refusal::ALL.iter().zip(refusals) {
         let word = format!("{refusal:?}").split(' ').next().unwrap().to_uppercase();
         assert_eq!(*name, format!("MANDROZSI_{word}"));
         assert_eq!(number.parse(), Ok(refusal.number()));
@@ -99,12 +101,13 @@ fn limits() {
         ("LARGEST", Drive::LARGEST),
         ("BLOCK_BYTES", Drive::BLOCK_BYTES),
         ("LEAVES_PER_BLOCK", Drive::LEAVES_PER_BLOCK),
+        ("LIST", LIST),
     ] {
         assert!(HEADER.contains(&format!("#define MANDROZSI_{name} {value}\n")), "{name}");
     }
 }
 
-/// A declaration as words: its name, then the kinds of its parameters.
+/// The kinds of a declaration's parameters.
 fn kinds(parameters: &str, rust: bool) -> Vec<String> {
     let kind = |p: &str| {
         let kind = if rust {
@@ -115,6 +118,7 @@ fn kinds(parameters: &str, rust: bool) -> Vec<String> {
         let pointer = if rust { kind.starts_with('*') } else { p.contains('*') };
         let shared = kind.contains("const");
         let bare = ["u16", "uint16_t"].iter().any(|t| kind.contains(t)).then_some("u16");
+        let bare = bare.or(["u64", "uint64_t"].iter().any(|t| kind.contains(t)).then_some("u64"));
         let bare = bare.or(["*mut u8", "*const u8", "uint8_t"].iter().any(|t| kind.contains(t)).then_some("u8"));
         let bare = bare.or((kind.contains("usize") || kind.contains("size_t")).then_some("size"));
         format!(
@@ -124,14 +128,24 @@ fn kinds(parameters: &str, rust: bool) -> Vec<String> {
             if pointer { " *" } else { "" }
         )
     };
-    parameters.split(',').map(|p| kind(p.trim())).collect()
+    parameters.split(',').map(str::trim).filter(|p| !p.is_empty()).map(kind).collect()
 }
 
-fn declared<'a>(text: &'a str, before: &str, rust: bool) -> Vec<(&'a str, Vec<String>)> {
+/// The functions that a text declares, in its order: what each gives back, its name, the kinds of its parameters.
+fn declared(text: &str, rust: bool) -> Vec<(&str, &str, Vec<String>)> {
     let mut found = Vec::new();
-    for part in text.split(before).skip(1) {
-        let (name, rest) = part.split_once('(').unwrap();
-        found.push((name, kinds(rest.split_once(')').unwrap().0, rust)));
+    for (i, _) in text.match_indices("mandrozsi_") {
+        let (before, from) = text.split_at(i);
+        let name = from.split(|c: char| !c.is_alphanumeric() && c != '_').next().unwrap();
+        let Some(rest) = from[name.len()..].strip_prefix('(') else { continue };
+        let (parameters, after) = rest.split_once(')').unwrap();
+        let back = if rust {
+            after.trim_start().strip_prefix("-> ").unwrap().split(';').next().unwrap()
+        } else {
+            before.trim_end().rsplit([' ', '\n', ';']).next().unwrap()
+        };
+        let back = if back.to_lowercase().ends_with("said") { "said" } else { "reply" };
+        found.push((back, name, kinds(parameters, rust)));
     }
     found
 }
@@ -139,8 +153,10 @@ fn declared<'a>(text: &'a str, before: &str, rust: bool) -> Vec<(&'a str, Vec<St
 #[test]
 fn functions() {
     let code = code();
-    let header = declared(&code, "mandrozsi_reply mandrozsi_", false);
-    let rust = declared(include_str!("../src/raw.rs"), "pub fn mandrozsi_", true);
-    assert_eq!(header.len(), 8);
+    let header = declared(&code, false);
+    let rust = declared(include_str!("../src/raw.rs"), true);
+    assert_eq!(header.len(), 9);
     assert_eq!(header, rust);
+    let alone: Vec<_> = header.iter().filter(|(back, ..)| *back == "said").map(|(_, name, _)| *name).collect();
+    assert_eq!(alone, ["mandrozsi_fetch"]);
 }

@@ -13,10 +13,10 @@ use lib.ListN.{length, getD}
 use borrow.Author.Tests.{eq-eqb, eqb-true, ltb-true}
 use Rattle.sequences.specs.Serving.{countList, leavesFrom}
 use Rattle.sequences.proofs.Laws.{round-once}
-use Rattle.pieces.specs.Board.{weight, number}
+use Rattle.pieces.specs.Board.{good, weight, number}
 use Rattle.pieces.specs.Placing.{placed}
 use Rattle.pieces.specs.Tidying as tidying
-use Rattle.pieces.proofs.Laws.{placed-weight, removed-name}
+use Rattle.pieces.proofs.Laws.{placed-length, placed-good, placed-weight, removed-length, removed-good, removed-name}
 use Rattle.calls.specs.declared.Drive.{Drive}
 use Rattle.calls.specs.declared.Refusal.{Refusal}
 use Rattle.calls.specs.declared.Refusal.the-variants.{Room}
@@ -29,10 +29,10 @@ use Rattle.calls.specs.declared.Served.{Served}
 use Rattle.calls.specs.declared.Rounded.{Rounded}
 use Rattle.calls.specs.declared.Reported.{Reported}
 use Rattle.calls.specs.Records.{driveAt}
-use Rattle.calls.specs.Refusals.{Asked, numberOf, applies, firstOf, zeroOr, numbers, among, openMay, addMay, removeMay, slotMay, roundMay, reportMay, askedOpen, askedAdd, askedName, asked, askedOutput, openCheck, addCheck, removeCheck, slotCheck, roundCheck, reportCheck}
+use Rattle.calls.specs.Refusals.{Asked, numberOf, applies, firstOf, zeroOr, numbers, among, openMay, addMay, removeMay, slotMay, roundMay, reportMay, askedOpen, askedAdd, askedName, asked, askedOutput, openCheck, addCheck, removeCheck, slotCheck, changeCheck, roundCheck, reportCheck, goodCheck}
 use Rattle.calls.specs.Answers.{Answer, beside, openingAnswer, changeAnswer, servingAnswer, roundingAnswer, reportAnswer}
-use Rattle.calls.specs.Results.{changeBy, admittedBy, openedAnswer, addedIdle, addedAnswer, addedBoard, removedIdle, removedAnswer, removedBoard, servedAnswer, slotNames, roundNames, roundedAnswer, reportedSpacing, reportedAnswer}
-use Rattle.calls.proofs.Checking.{by-bool, add-clear, add-weight, remove-clear, remove-held}
+use Rattle.calls.specs.Results.{ifClear, changeBy, admittedBy, openedAnswer, addedIdle, addedAnswer, addedBoard, removedIdle, removedAnswer, removedBoard, servedAnswer, slotNames, roundNames, roundedAnswer, reportedSpacing, reportedAnswer}
+use Rattle.calls.proofs.Checking.{by-bool, change-parts, change-slot, change-start, add-change, add-clear, add-weight, remove-change, remove-clear, remove-held}
 use Rattle.calls.proofs.Calling.{unique, Refuses, refuses, refusal, may, first-within, first-among, never-within, and-both}
 use Rattle.calls.specs.Spacing.{roundedUp}
 use Rattle.calls.proofs.Spaced as spaced
@@ -40,7 +40,7 @@ use Rattle.calls.specs.Promises.{Opens, Adds, Removes, Serves, Rounds, R
 -- ---- what is known once the checks of a call are clear
 
 unfoldable pub use Rattle.calls.proofs.Checking.{Passed}
-pub use Rattle.calls.proofs.Checking.{Sized, passed, first-next, first-clear, then-clear, open-clear, open-sized, slot-sized, slot-parts, change-parts, slot-position, change-slot, change-start, change-good, admit-change, admit-clear, add-parts, add-change, add-weight, add-clear, remove-change, remove-held, remove-clear, round-slot, round-room, report-slot, report-good, report-held}
+pub use Rattle.calls.proofs.Checking.{by-bool, Sized, passed, first-next, first-clear, then-clear, open-clear, open-sized, slot-sized, slot-parts, change-parts, slot-position, change-slot, change-start, change-good, admit-change, admit-clear, add-parts, remove-parts, add-change, add-weight, add-clear, remove-change, remove-held, remove-clear, round-slot, round-room, report-slot, report-good, report-held}
 pub use Rattle.calls.proofs.Admitting.{add-full}
 -- ---- spacing: the longest wait from one serve to the next (document 02, request No. 1)
 
@@ -218,6 +218,35 @@ module _ (d : Drive) (B : List ℕ) (x : ℕ) where
 
   pub report-may : {r : Reported} → Reports d B x r → among (reportAnswer (r .answer) .number) reportMay ≡ true
   report-may p = may reportMay (p .1) report-answers
+
+-- ---- changes one after the other: none of them changes what the checks 1 to 5 find, since the board keeps its length and stays good
+
+module _ (d : Drive) (B : List ℕ) where
+  -- they find nothing on another board of that length that is good
+  good-again : (D : List ℕ) → length D ≡ length B → good (d .capacity) D ≡ true → changeCheck d B ≡ Clear → changeCheck d D ≡ Clear
+  unfolding slotCheck goodCheck
+  good-again D long fine e =
+      change-parts d D ∙ rw (long, change-slot d B e, change-start d B e, fine) refl
+
+  pub add-keeps : (x w : ℕ) → changeCheck d (addedBoard d B x w) ≡ changeCheck d B
+  add-keeps x w = go (addCheck d B x w) refl
+    where
+      go : (k : Check) → addCheck d B x w ≡ k → changeCheck d (ifClear k (placed (d .capacity) B x w) B) ≡ changeCheck d B
+      go (Refused r) e = refl
+      go Clear e =
+          let may = add-clear d B x w e in
+          let clear = add-change d B x w e in
+          good-again (placed (d .capacity) B x w) (placed-length (d .capacity) B x w may) (placed-good (d .capacity) B x w may) clear ∙ sym clear
+
+  pub remove-keeps : (x : ℕ) → changeCheck d (removedBoard d B x) ≡ changeCheck d B
+  remove-keeps x = go (removeCheck d B x) refl
+    where
+      go : (k : Check) → removeCheck d B x ≡ k → changeCheck d (ifClear k (tidying.removed (d .capacity) B x) B) ≡ changeCheck d B
+      go (Refused r) e = refl
+      go Clear e =
+          let may = remove-clear d B x e in
+          let clear = remove-change d B x e in
+          good-again (tidying.removed (d .capacity) B x) (removed-length (d .capacity) B x may) (removed-good (d .capacity) B x may) clear ∙ sym clear
 
 -- ---- "a leaf holds the name"
 

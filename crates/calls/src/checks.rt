@@ -35,21 +35,23 @@ impl Drive {
         }
     }
 
-    // The refusals 1 to 8, which add looks at before it looks for room.
-    pub fn check_admit(self, board: &[u16], name: u16, weight: u16) -> Check
+    // The refusals 1 to 8, which add looks at before it looks for room, by what those up to 5 found.
+    pub fn check_admit(self, found: Check, board: &[u16], name: u16, weight: u16) -> Check
+        requires { ⌜ found ≡ refusals.changeCheck self (now board) ⌝ }
         ensures { λ r. ⌜ r ≡ refusals.admitCheck self (now (board .entry)) name weight ⌝ }
     {
-        match self.check_change(board) {
+        match found {
             Check::Refused(r) => Check::Refused(r),
             Check::Clear => check_new(board, self.capacity as usize, name, weight as usize),
         }
     }
 
-    // The refusals 1 to 6 and 9.
-    pub fn check_remove(self, board: &[u16], name: u16) -> Check
+    // The refusals 1 to 6 and 9, by what those up to 5 found.
+    pub fn check_remove(self, found: Check, board: &[u16], name: u16) -> Check
+        requires { ⌜ found ≡ refusals.changeCheck self (now board) ⌝ }
         ensures { λ r. ⌜ r ≡ refusals.removeCheck self (now (board .entry)) name ⌝ }
     {
-        match self.check_change(board) {
+        match found {
             Check::Refused(r) => Check::Refused(r),
             Check::Clear => check_held(board, self.capacity as usize, name),
         }
@@ -105,7 +107,7 @@ pub fn check_open(c: usize, board: &[u16]) -> Check
 }
 
 // The refusal 3.
-fn check_position(c: usize, p: usize) -> Check
+pub fn check_position(c: usize, p: usize) -> Check
     requires { ⌜ (0 < c) × (c ≤ 4095) ⌝ }
     ensures { λ r. ⌜ r ≡ refusals.positionCheck c p ⌝ }
 {

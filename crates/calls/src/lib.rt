@@ -5,6 +5,7 @@ ghost use Prim.Native.Nat.{_≤_};
 ghost use lib.ListN.{length, drop};
 ghost use Rattle.sequences.specs.Board.{Position};
 ghost use Rattle.calls.specs.Records.{driveAt, roundAfter, movedTo};
+ghost use Rattle.calls.specs.Refusals as refusals;
 ghost use Rattle.calls.specs.Refusals.{numberOf};
 ghost use Rattle.calls.specs.Results as results;
 ghost use Rattle.calls.specs.Promises as promises;
@@ -198,7 +199,16 @@ impl Drive {
     pub fn add(self, board: &mut [u16], name: u16, weight: u16) -> Changed
         ensures { λ r. ⌜ promises.Adds self (now (board .entry)) name weight r (now (board .exit)) ⌝ }
     {
-        match self.check_admit(board, name, weight) {
+        let found = self.check_change(board);
+        self.add_by(found, board, name, weight)
+    }
+
+    // Admits a stream, by what the checks 1 to 5 found.
+    pub fn add_by(self, found: Check, board: &mut [u16], name: u16, weight: u16) -> Changed
+        requires { ⌜ found ≡ refusals.changeCheck self (now board) ⌝ }
+        ensures { λ r. ⌜ promises.Adds self (now (board .entry)) name weight r (now (board .exit)) ⌝ }
+    {
+        match self.check_admit(found, board, name, weight) {
             Check::Refused(r) => Changed {
                 drive: self,
                 answer: Change::Refused(r),
@@ -223,7 +233,16 @@ impl Drive {
     pub fn remove(self, board: &mut [u16], name: u16) -> Changed
         ensures { λ r. ⌜ promises.Removes self (now (board .entry)) name r (now (board .exit)) ⌝ }
     {
-        match self.check_remove(board, name) {
+        let found = self.check_change(board);
+        self.remove_by(found, board, name)
+    }
+
+    // Removes a stream, by what the checks 1 to 5 found.
+    pub fn remove_by(self, found: Check, board: &mut [u16], name: u16) -> Changed
+        requires { ⌜ found ≡ refusals.changeCheck self (now board) ⌝ }
+        ensures { λ r. ⌜ promises.Removes self (now (board .entry)) name r (now (board .exit)) ⌝ }
+    {
+        match self.check_remove(found, board, name) {
             Check::Refused(r) => Changed {
                 drive: self,
                 answer: Change::Refused(r),

@@ -1,5 +1,6 @@
 // Every command, and every refusal that the console can give; rounds of 4,095.
 fn main() {
     let mut board = [0; 4095];
-    desk::serve(&mut board);
+    let mut list = [0u64; 259];
+    desk::serve(&mut board, &mut list);
 }

@@ -1,5 +1,6 @@
 // Streams come and go: boards on which a wrong choice of idle piece or of move shows.
 fn main() {
     let mut board = [0; 4095];
-    desk::serve(&mut board);
+    let mut list = [0u64; 259];
+    desk::serve(&mut board, &mut list);
 }

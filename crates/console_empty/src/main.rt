@@ -1,5 +1,6 @@
 // No input: no output.
 fn main() {
     let mut board = [0; 4095];
-    desk::serve(&mut board);
+    let mut list = [0u64; 259];
+    desk::serve(&mut board, &mut list);
 }

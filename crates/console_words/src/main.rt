@@ -1,5 +1,6 @@
 // Lines that are no commands, and some that are, down to a last line with no line feed.
 fn main() {
     let mut board = [0; 4095];
-    desk::serve(&mut board);
+    let mut list = [0u64; 259];
+    desk::serve(&mut board, &mut list);
 }

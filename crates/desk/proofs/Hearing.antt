@@ -11,31 +11,34 @@ use Rattle.lines.proofs.Laws.{fed-part, left-parts}
 use Rattle.desk.specs.Serving.{Follows, Served}
 
 -- Nothing heard.
-pub at-first : (s : Session) (B : List ℕ) → Follows s B s B
+pub at-first : (s : Session) (B L : List ℕ) → Follows s B L s B L
 unfolding heardAll
-at-first s B = record { bytes = []; session = refl; board = refl }
+at-first s B L = record { bytes = []; session = refl; board = refl; list = refl }
 
 -- What a feed hears.
-pub fed-follows : (s : Session) (I B O : List ℕ) (r : Fed) (B′ O′ : List ℕ) → Answered s I B O r B′ O′ → Follows s B (r .session) B′
-fed-follows s I B O r B′ O′ a =
-    let t = talked (length O) (begun s B) I in
-    let e = fed-part (length O) s B I in
+pub fed-follows : (s : Session) (I B L O : List ℕ) (r : Fed) (B′ L′ O′ : List ℕ) → Answered s I B L O r B′ L′ O′ → Follows s B L (r .session) B′ L′
+fed-follows s I B L O r B′ L′ O′ a =
+    let t = talked (length O) (begun s B L) I in
+    let e = fed-part (length O) s B L I in
     record {
       bytes = take (t .used) I;
       session = ap (λ (f : Fed). f .session) (a .handed) ∙ ap (λ (u : Talk). u .session) e;
       board = a .board ∙ ap (λ (u : Talk). u .board) e;
+      list = a .list ∙ ap (λ (u : Talk). u .list) e;
     }
 
 -- Two hearings, one after the other.
-pub then : (s : Session) (B : List ℕ) (s′ : Session) (B′ : List ℕ) (s″ : Session) (B″ : List ℕ) → Follows s B s′ B′ → Follows s′ B′ s″ B″ → Follows s B s″ B″
-then s B s′ B′ s″ B″ f g =
-    let p = left-parts (f .bytes) (g .bytes) (begun s B) in
+pub then : (s : Session) (B L : List ℕ) (s′ : Session) (B′ L′ : List ℕ) (s″ : Session) (B″ L″ : List ℕ)
+    → Follows s B L s′ B′ L′ → Follows s′ B′ L′ s″ B″ L″ → Follows s B L s″ B″ L″
+then s B L s′ B′ L′ s″ B″ L″ f g =
+    let p = left-parts (f .bytes) (g .bytes) (begun s B L) in
     record {
       bytes = f .bytes ++ g .bytes;
-      session = rw (p .0, ← f .session, ← f .board) (g .session);
-      board = rw (p .1, ← f .session, ← f .board) (g .board);
+      session = rw (p .0, ← f .session, ← f .board, ← f .list) (g .session);
+      board = rw (p .1, ← f .session, ← f .board, ← f .list) (g .board);
+      list = rw (p .2, ← f .session, ← f .board, ← f .list) (g .list);
     }
 
 -- What follows from the start was served.
-pub follows-served : (B : List ℕ) (s : Session) (B′ : List ℕ) → Follows started B s B′ → Served B B′
-follows-served B s B′ f = record { input = f .bytes; board = f .board }
+pub follows-served : (B L : List ℕ) (s : Session) (B′ L′ : List ℕ) → Follows started B L s B′ L′ → Served B L B′ L′
+follows-served B L s B′ L′ f = record { input = f .bytes; board = f .board; list = f .list }

@@ -1,6 +1,6 @@
 // The console's loop: standard input is read in large blocks, heard, and what is said is written in large blocks, before
 // more input is waited for. What is heard and said is the promises of `lines`; no contract can say what is read or
-// written, but whatever it is, the board is as a session over some input leaves it.
+// written, but whatever it is, the board and the waiting list are as a session over some input leaves them.
 use libc::STDIN_FILENO;
 use libc::STDOUT_FILENO;
 use lines::Session;
@@ -22,13 +22,19 @@ fn large_room() -> [u8; 131072]
 }
 
 // Hears a block of input to its end, and writes what is said of it.
-fn hear_block(session: Session, input: &[u8], board: &mut [u16], out: &mut [u8]) -> Turn
-    ensures { λ r. ⌜ Follows session (now (board .entry)) (r .session) (now (board .exit)) ⌝ }
+fn hear_block(
+    session: Session,
+    input: &[u8],
+    board: &mut [u16],
+    list: &mut [u64],
+    out: &mut [u8],
+) -> Turn
+    ensures { λ r. ⌜ Follows session (now (board .entry)) (now (list .entry)) (r .session) (now (board .exit)) (now (list .exit)) ⌝ }
 {
     let mut s = session;
     let mut at: usize = 0;
     while at < input.len() {
-        let fed = lines::feed(s, &input[at..], board, out);
+        let fed = lines::feed(s, &input[at..], board, list, out);
         s = fed.session;
         let to = fed.to;
         let used = fed.used;
@@ -53,10 +59,10 @@ fn hear_block(session: Session, input: &[u8], board: &mut [u16], out: &mut [u8])
 }
 
 // The end of the input: the last line, where no line feed ended it.
-fn hear_end(session: Session, board: &mut [u16], out: &mut [u8]) -> Turn
-    ensures { λ r. ⌜ Follows session (now (board .entry)) (r .session) (now (board .exit)) ⌝ }
+fn hear_end(session: Session, board: &mut [u16], list: &mut [u64], out: &mut [u8]) -> Turn
+    ensures { λ r. ⌜ Follows session (now (board .entry)) (now (list .entry)) (r .session) (now (board .exit)) (now (list .exit)) ⌝ }
 {
-    let fed = lines::finish(session, board, out);
+    let fed = lines::finish(session, board, list, out);
     let to = fed.to;
     io::write_all(STDOUT_FILENO, &out[..to]);
     let session = fed.session;
@@ -67,26 +73,32 @@ fn hear_end(session: Session, board: &mut [u16], out: &mut [u8]) -> Turn
 }
 
 // Reads once, and answers what came.
-fn take_turn(session: Session, input: &mut [u8], board: &mut [u16], out: &mut [u8]) -> Turn
-    ensures { λ r. ⌜ Follows session (now (board .entry)) (r .session) (now (board .exit)) ⌝ }
+fn take_turn(
+    session: Session,
+    input: &mut [u8],
+    board: &mut [u16],
+    list: &mut [u64],
+    out: &mut [u8],
+) -> Turn
+    ensures { λ r. ⌜ Follows session (now (board .entry)) (now (list .entry)) (r .session) (now (board .exit)) (now (list .exit)) ⌝ }
 {
     let got = libc::read(STDIN_FILENO, input);
     let n = io::count(got, input);
     if n == 0 {
-        return hear_end(session, board, out);
+        return hear_end(session, board, list, out);
     }
-    hear_block(session, &input[..n], board, out)
+    hear_block(session, &input[..n], board, list, out)
 }
 
 // Turns until there is no more to hear. A proved loop has to end, and nothing says that the input does, so the turns
 // are counted down from a number that no run uses up.
-fn talk(input: &mut [u8], board: &mut [u16], out: &mut [u8])
-    ensures { λ _. ⌜ Served (now (board .entry)) (now (board .exit)) ⌝ }
+fn talk(input: &mut [u8], board: &mut [u16], list: &mut [u64], out: &mut [u8])
+    ensures { λ _. ⌜ Served (now (board .entry)) (now (list .entry)) (now (board .exit)) (now (list .exit)) ⌝ }
 {
     let mut session = Session::new();
     let mut turns = u64::MAX;
     while turns > 0 {
-        let t = take_turn(session, input, board, out);
+        let t = take_turn(session, input, board, list, out);
         session = t.session;
         if !t.goes_on {
             return;
@@ -96,10 +108,10 @@ fn talk(input: &mut [u8], board: &mut [u16], out: &mut [u8])
 }
 
 // Answers standard input to its end on standard output.
-pub fn serve(board: &mut [u16])
-    ensures { λ _. ⌜ Served (now (board .entry)) (now (board .exit)) ⌝ }
+pub fn serve(board: &mut [u16], list: &mut [u64])
+    ensures { λ _. ⌜ Served (now (board .entry)) (now (list .entry)) (now (board .exit)) (now (list .exit)) ⌝ }
 {
     let mut input = io::large_buffer();
     let mut out = large_room();
-    talk(&mut input, board, &mut out);
+    talk(&mut input, board, list, &mut out);
 }

@@ -18,9 +18,12 @@ saidOf a = record { number = a .number; first = getD (a .values) 0 0; second = g
 abbrev pub reply : Drive → Answer → Reply
 reply d a = record { drive = d; said = saidOf a }
 
--- What is said of a call that is done, and of one that is refused.
+-- What is said of a call that is done; a number with one value, and that of a refusal.
 abbrev pub done : ℕ → ℕ → ℕ → ℕ → Said
 done a b c d = saidOf (record { number = 0; values = a ∷ b ∷ c ∷ d ∷ [] })
 
+abbrev pub told : ℕ → ℕ → Said
+told n a = saidOf (record { number = n; values = a ∷ [] })
+
 abbrev pub refusal : Refusal → ℕ → Said
-refusal r a = saidOf (record { number = numberOf r; values = a ∷ [] })
+refusal r a = told (numberOf r) a

@@ -1,18 +1,23 @@
-// The functions that C and Rust link: every call on a slot board, and save and read. A slice is a pointer and then a length.
+// The functions that C and Rust link: every call on a slot board with its waiting list, and save and read. A slice is a pointer and then a length.
 ghost use mathlib.Core.Path.{_≡_};
-ghost use Rattle.calls.specs.Answers.{openingAnswer, changeAnswer, servingAnswer, roundingAnswer, reportAnswer};
+ghost use lib.ListN.{length};
+ghost use Rattle.calls.specs.Answers.{openingAnswer, servingAnswer, roundingAnswer, reportAnswer};
 ghost use Rattle.calls.specs.Results as results;
 ghost use Rattle.sheets.specs.Results as sheet_results;
-ghost use Rattle.exports.specs.Replies.{saidOf, reply, done, refusal};
-use calls::Change;
+ghost use Rattle.waiting.specs.Layout.{fetched, fetchedList};
+ghost use Rattle.orders.specs.Answers.{orderingAnswer, fetchingAnswer};
+ghost use Rattle.orders.specs.Results as order_results;
+ghost use Rattle.exports.specs.Replies.{saidOf, reply, done, told, refusal};
 use calls::Drive;
 use calls::Opening;
 use calls::Refusal;
 use calls::Report;
 use calls::Rounding;
 use calls::Serving;
+use orders::Ordering;
 use sheets::Loading;
 use sheets::Saving;
+use waiting::Fetching;
 
 // What a call says: the answer's number, 0 for done, and its values in the order of document 01; a value that an answer does not have is 0. 64 bits each, so
 // that every value there is has room: a leaf, a round number, a ticket.
@@ -45,6 +50,19 @@ fn said_done(first: u64, second: u64, third: u64, fourth: u64) -> Said
     }
 }
 
+// A number and one value.
+fn said_told(number: u64, first: u64) -> Said
+    ensures { λ r. ⌜ r ≡ told number first ⌝ }
+{
+    Said {
+        number,
+        first,
+        second: 0,
+        third: 0,
+        fourth: 0,
+    }
+}
+
 // A call that is refused. Only ROOM has a value.
 fn said_refused(why: Refusal, first: u64) -> Said
     ensures { λ r. ⌜ r ≡ refusal why first ⌝ }
@@ -69,13 +87,26 @@ fn said_opening(answer: Opening) -> Said
 }
 
 // The answer of add and of remove.
-fn said_change(answer: Change) -> Said
-    ensures { λ r. ⌜ r ≡ saidOf (changeAnswer answer) ⌝ }
+fn said_ordering(answer: Ordering) -> Said
+    ensures { λ r. ⌜ r ≡ saidOf (orderingAnswer answer) ⌝ }
 {
     match answer {
-        Change::Done(idle) => said_done(idle as u64, 0, 0, 0),
-        Change::Room(idle) => said_refused(Refusal::Room, idle as u64),
-        Change::Refused(why) => said_refused(why, 0),
+        Ordering::Done(idle) => said_done(idle as u64, 0, 0, 0),
+        Ordering::Room(idle) => said_refused(Refusal::Room, idle as u64),
+        Ordering::Waiting(ticket) => said_told(13, ticket),
+        Ordering::Queue => said_told(14, 0),
+        Ordering::Refused(why) => said_refused(why, 0),
+    }
+}
+
+// The answer of fetch.
+fn said_fetching(answer: Fetching) -> Said
+    ensures { λ r. ⌜ r ≡ saidOf (fetchingAnswer answer) ⌝ }
+{
+    match answer {
+        Fetching::Answer { number, value } => said_told(number, value),
+        Fetching::Waits(ticket) => said_told(13, ticket),
+        Fetching::Unknown => said_told(15, 0),
     }
 }
 
@@ -138,12 +169,12 @@ fn said_loading(answer: Loading) -> Said
     }
 }
 
-// Opens a board.
+// Opens a board, and empties the list.
 #[no_mangle]
-pub extern "C" fn mandrozsi_open(capacity: u16, board: &mut [u16]) -> Reply
-    ensures { λ r. ⌜ (r ≡ reply (results.opened capacity (now (board .entry)) .drive) (results.openedAnswer capacity (now (board .entry)))) × (now (board .exit) ≡ results.openedBoard capacity (now (board .entry))) ⌝ }
+pub extern "C" fn mandrozsi_open(capacity: u16, board: &mut [u16], list: &mut [u64]) -> Reply
+    ensures { λ r. ⌜ (r ≡ reply (order_results.opened capacity (now (board .entry)) (length (now (list .entry))) .drive) (order_results.openedAnswer capacity (now (board .entry)) (length (now (list .entry))))) × (now (board .exit) ≡ order_results.openedBoard capacity (now (board .entry)) (length (now (list .entry)))) × (now (list .exit) ≡ order_results.openedList capacity (now (board .entry)) (now (list .entry))) ⌝ }
 {
-    let opened = Drive::open(capacity, board);
+    let opened = orders::open(capacity, board, list);
     let after = opened.drive;
     let answer = opened.answer;
     Reply {
@@ -152,40 +183,52 @@ pub extern "C" fn mandrozsi_open(capacity: u16, board: &mut [u16]) -> Reply
     }
 }
 
-// Admits a stream: the idle leaves left; refused for ROOM, the idle leaves there are.
+// Admits a stream, at once or by an order that waits: the idle leaves left, or the ticket.
 #[no_mangle]
-pub extern "C" fn mandrozsi_add(drive: Drive, board: &mut [u16], name: u16, weight: u16) -> Reply
-    ensures { λ r. ⌜ (r ≡ reply drive (results.addedAnswer drive (now (board .entry)) name weight)) × (now (board .exit) ≡ results.addedBoard drive (now (board .entry)) name weight) ⌝ }
+pub extern "C" fn mandrozsi_add(
+    drive: Drive,
+    board: &mut [u16],
+    list: &mut [u64],
+    name: u16,
+    weight: u16,
+) -> Reply
+    ensures { λ r. ⌜ (r ≡ reply drive (order_results.changedAnswer drive (now (board .entry)) (now (list .entry)) (order_results.addOrder name weight))) × (now (board .exit) ≡ order_results.changedBoard drive (now (board .entry)) (now (list .entry)) (order_results.addOrder name weight)) × (now (list .exit) ≡ order_results.changedList drive (now (board .entry)) (now (list .entry)) (order_results.addOrder name weight)) ⌝ }
 {
-    let added = drive.add(board, name, weight);
+    let added = orders::add(drive, board, list, name, weight);
     let after = added.drive;
     let answer = added.answer;
     Reply {
         drive: after,
-        said: said_change(answer),
+        said: said_ordering(answer),
     }
 }
 
-// Removes a stream: the idle leaves left.
+// Removes a stream, at once or by an order that waits: the idle leaves left, or the ticket.
 #[no_mangle]
-pub extern "C" fn mandrozsi_remove(drive: Drive, board: &mut [u16], name: u16) -> Reply
-    ensures { λ r. ⌜ (r ≡ reply drive (results.removedAnswer drive (now (board .entry)) name)) × (now (board .exit) ≡ results.removedBoard drive (now (board .entry)) name) ⌝ }
+pub extern "C" fn mandrozsi_remove(
+    drive: Drive,
+    board: &mut [u16],
+    list: &mut [u64],
+    name: u16,
+) -> Reply
+    ensures { λ r. ⌜ (r ≡ reply drive (order_results.changedAnswer drive (now (board .entry)) (now (list .entry)) (order_results.removeOrder name))) × (now (board .exit) ≡ order_results.changedBoard drive (now (board .entry)) (now (list .entry)) (order_results.removeOrder name)) × (now (list .exit) ≡ order_results.changedList drive (now (board .entry)) (now (list .entry)) (order_results.removeOrder name)) ⌝ }
 {
-    let removed = drive.remove(board, name);
+    let removed = orders::remove(drive, board, list, name);
     let after = removed.drive;
     let answer = removed.answer;
     Reply {
         drive: after,
-        said: said_change(answer),
+        said: said_ordering(answer),
     }
 }
 
-// Serves a slot: the name, the leaf, the terms passed over, the number of its round; the record moves on.
+// Serves a slot: the name, the leaf, the terms passed over, the number of its round; the record moves on. Where a round starts the orders that wait are
+// carried out first.
 #[no_mangle]
-pub extern "C" fn mandrozsi_slot(drive: Drive, board: &[u16]) -> Reply
-    ensures { λ r. ⌜ r ≡ reply (results.served drive (now (board .entry)) .drive) (results.servedAnswer drive (now (board .entry))) ⌝ }
+pub extern "C" fn mandrozsi_slot(drive: Drive, board: &mut [u16], list: &mut [u64]) -> Reply
+    ensures { λ r. ⌜ (r ≡ reply (order_results.served drive (now (board .entry)) (now (list .entry)) .drive) (order_results.servedAnswer drive (now (board .entry)) (now (list .entry)))) × (now (board .exit) ≡ order_results.servedBoard drive (now (board .entry)) (now (list .entry))) × (now (list .exit) ≡ order_results.servedList drive (now (board .entry)) (now (list .entry))) ⌝ }
 {
-    let served = drive.slot(board);
+    let served = orders::slot(drive, board, list);
     let after = served.drive;
     let answer = served.answer;
     Reply {
@@ -236,16 +279,25 @@ pub extern "C" fn mandrozsi_save(drive: Drive, board: &[u16], output: &mut [u8])
     }
 }
 
-// Reads a sheet: the leaves of a board, and a record at the start of a round.
+// Reads a sheet: the leaves of a board, and a record at the start of a round. The list is emptied.
 #[no_mangle]
-pub extern "C" fn mandrozsi_read(sheet: &[u8], board: &mut [u16]) -> Reply
-    ensures { λ r. ⌜ (r ≡ reply (sheet_results.loaded (now (sheet .entry)) (now (board .entry)) .drive) (sheet_results.loadedAnswer (now (sheet .entry)) (now (board .entry)))) × (now (board .exit) ≡ sheet_results.loadedBoard (now (sheet .entry)) (now (board .entry))) ⌝ }
+pub extern "C" fn mandrozsi_read(sheet: &[u8], board: &mut [u16], list: &mut [u64]) -> Reply
+    ensures { λ r. ⌜ (r ≡ reply (order_results.loaded (now (sheet .entry)) (now (board .entry)) (length (now (list .entry))) .drive) (order_results.loadedAnswer (now (sheet .entry)) (now (board .entry)) (length (now (list .entry))))) × (now (board .exit) ≡ order_results.loadedBoard (now (sheet .entry)) (now (board .entry)) (length (now (list .entry)))) × (now (list .exit) ≡ order_results.loadedList (now (sheet .entry)) (now (board .entry)) (now (list .entry))) ⌝ }
 {
-    let loaded = sheets::read(sheet, board);
+    let loaded = orders::read(sheet, board, list);
     let after = loaded.drive;
     let answer = loaded.answer;
     Reply {
         drive: after,
         said: said_loading(answer),
     }
+}
+
+// Fetches the answer of an order by its ticket.
+#[no_mangle]
+pub extern "C" fn mandrozsi_fetch(list: &mut [u64], ticket: u64) -> Said
+    ensures { λ r. ⌜ (r ≡ saidOf (fetchingAnswer (fetched (now (list .entry)) ticket))) × (now (list .exit) ≡ fetchedList (now (list .entry)) ticket) ⌝ }
+{
+    let answer = waiting::fetch(list, ticket);
+    said_fetching(answer)
 }

@@ -8,7 +8,7 @@ use native.Mathlib.Numerals.{add-one}
 use lib.Dec.{eqb}
 use lib.ListN.{length, take, drop, length-drop}
 use lib.Seq.{take-all}
-use Rattle.lines.specs.Grammar.{placeOf, parted, words, number, alone, withOne, withTwo, command, parsed}
+use Rattle.lines.specs.Grammar.{placeOf, parted, words, same, number, ticket, fetchWord, alone, withOne, withTicket, withTwo, command, parsed}
 use Rattle.lines.specs.declared.Command.the-variants.{Unknown}
 use Rattle.lines.proofs.Cuts.{words-one, words-more}
 
@@ -31,9 +31,15 @@ pub command-three : (w x s : List ℕ) → length s ≤ placeOf 32 s → command
 unfolding command
 command-three w x s h = rw (words-one s h) refl
 
-pub command-two : (w s : List ℕ) → length s ≤ placeOf 32 s → command (w ∷ words s) ≡ withOne w (number s)
-unfolding command
-command-two w s h = rw (words-one s h) refl
+-- a line of two words is a fetch, or not
+module _ (w s : List ℕ) (h : length s ≤ placeOf 32 s) where
+  pub command-fetch : same w fetchWord ≡ true → command (w ∷ words s) ≡ withTicket (ticket s)
+  unfolding command
+  command-fetch e = rw (words-one s h, e) refl
+
+  pub command-two : same w fetchWord ≡ false → command (w ∷ words s) ≡ withOne w (number s)
+  unfolding command
+  command-two e = rw (words-one s h, e) refl
 
 -- what stands before the first space of a line, and what stands after it as the code lends it
 module _ (s : List ℕ) (e : ℕ) (at : e ≡ placeOf 32 s) (h : e < length s) where

@@ -74,6 +74,11 @@ fields-append (m ∷ ns) n = rw (fields-append ns n) (sym (append-assoc (field m
 pub fields-more : (ns : List ℕ) (i : ℕ) → i < length ns → fields (take (suc i) ns) ≡ fields (take i ns) ++ field (getD ns i 0)
 fields-more ns i h = rw (take-suc ns i 0 h) (fields-append (take i ns) (getD ns i 0))
 
+-- a line of a number alone is the number and a line feed
+pub line-alone : (l : List ℕ) (i n : ℕ) → set (sets l i (decimal n)) (i + length (decimal n)) 10 ≡ sets l i (line n [])
+unfolding line fields
+line-alone l i n = sets-snoc l i (decimal n) 10
+
 -- a line is its number, its values and a line feed, one after the other
 pub line-put : (l : List ℕ) (i n : ℕ) (vs : List ℕ)
     → set (sets (sets l i (decimal n)) (i + length (decimal n)) (fields vs)) (i + length (decimal n) + length (fields vs)) 10 ≡ sets l i (line n vs)

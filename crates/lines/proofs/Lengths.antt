@@ -8,12 +8,12 @@ use native.Mathlib.Decide.{decLt}
 use lib.Dec.{eqb}
 use lib.ListN.{length, take}
 use lib.Seq.{take-all, length-take-le}
-use Rattle.lines.specs.Grammar.{parted, words, mostDigits, number, openWord, addWord, removeWord, slotWord, roundWord, longest, alone, withOne, withTwo, command, parsed}
+use Rattle.lines.specs.Grammar.{parted, words, same, mostDigits, number, ticketDigits, openWord, addWord, removeWord, slotWord, roundWord, fetchWord, longest, alone, withOne, withTwo, command, parsed}
 use Rattle.lines.specs.Sessions.{keptBytes}
 use Rattle.lines.specs.declared.Command.the-variants.{Unknown}
 use Rattle.lines.specs.declared.reading.Numeral.{Numeral}
 use Rattle.lines.specs.declared.reading.Numeral.the-variants.{Value, Nothing}
-use Rattle.lines.proofs.Cuts.{same-short}
+use Rattle.lines.proofs.Cuts.{by-bool, same-short}
 use Rattle.lines.proofs.Spelling.{numeral-long}
 
 -- how many bytes words have, with a space between each two
@@ -71,9 +71,13 @@ unfolding total command withOne withTwo
 command-long [] h = refl
 command-long (w ∷ []) h = alone-long w (omega arith)
 command-long (w ∷ x ∷ []) h =
-    elim (decLt mostDigits (length x)) [
-      | yes l ↦ rw (numeral-long mostDigits 65535 x l) refl
-      | no l ↦ one-long w (number x) (omega arith)
+    elim (decLt ticketDigits (length x)) [
+      | yes l ↦ rw (numeral-long ticketDigits 18446744073709551615 x l, numeral-long mostDigits 65535 x (omega arith))
+          (by-bool (same w fetchWord) (λ t. rw t refl) (λ f. rw f refl))
+      | no l ↦ rw (same-short w fetchWord (λ e. omega arith)) (elim (decLt mostDigits (length x)) [
+        | yes m ↦ rw (numeral-long mostDigits 65535 x m) refl
+        | no m ↦ one-long w (number x) (omega arith)
+      ])
     ]
 command-long (w ∷ x ∷ y ∷ []) h =
     elim (decLt mostDigits (length x)) [

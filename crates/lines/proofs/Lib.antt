@@ -11,5 +11,6 @@ mod Talks
 mod Whole
 mod Parts
 mod Unique
+mod Fetched
 mod Examples
 pub mod Laws

@@ -2,7 +2,7 @@
 use mathlib.Core.Path.{_≡_, refl, sym, ap, _∙_}
 use mathlib.Core.Bool.{Bool, true, false, _||_}
 use mathlib.Core.List.{List, _++_}
-use Prim.Native.Nat.{ℕ, _≤_, _<_}
+use Prim.Native.Nat.{ℕ, _≤_}
 use native.Mathlib.Omega.{arith}
 use lib.Dec.{eqb, ltb}
 use lib.ListN.{length, take, drop, length-append, length-drop, length-replicate}
@@ -11,28 +11,12 @@ use borrow.Author.Tests.{ltb-false}
 use Rattle.calls.specs.declared.Drive.{Drive}
 use Rattle.calls.specs.declared.Check.{Check}
 use Rattle.calls.specs.declared.Check.the-variants.{Clear, Refused}
-use Rattle.calls.specs.declared.Refusal.{Refusal}
-use Rattle.calls.specs.declared.Refusal.the-variants.{Capacity, Short, Position, Midround, Damaged, Name, Weight, Taken, Absent, Room, Output, Block}
+use Rattle.calls.specs.declared.Refusal.the-variants.{Capacity}
 use Rattle.calls.specs.declared.Rounded.{Rounded}
 use Rattle.calls.specs.declared.Rounding.the-variants as rounding
-use Rattle.calls.specs.Refusals.{numberOf, refuseIf, firstOf, applies, roundCheck}
+use Rattle.calls.specs.Refusals.{refuseIf, firstOf, applies, roundCheck}
 use Rattle.calls.specs.Results.{roundNames, roundingBy, rounded, roundedOutput}
 use Rattle.lines.specs.Printing.{blank}
-
--- a refusal's number has at most two digits
-pub number-short : (r : Refusal) → numberOf r < 100
-number-short Capacity = omega arith
-number-short Short = omega arith
-number-short Position = omega arith
-number-short Midround = omega arith
-number-short Damaged = omega arith
-number-short Name = omega arith
-number-short Weight = omega arith
-number-short Taken = omega arith
-number-short Absent = omega arith
-number-short Room = omega arith
-number-short Output = omega arith
-number-short Block = omega arith
 
 blank-length : (n : ℕ) → length (blank n) ≡ n
 unfolding blank

@@ -32,25 +32,29 @@ talk-part n (b ∷ s) t =
     (λ e. let z : t .used - t .used ≡ 0 = omega arith in rw (e, z) refl)
 
 -- a feed hears as much of its input as it says
-pub fed-part : (n : ℕ) (s : Session) (B I : List ℕ) → talked n (begun s B) I ≡ heardAll (begun s B) (take (talked n (begun s B) I .used) I)
-fed-part n s B I = let z : talked n (begun s B) I .used - 0 ≡ talked n (begun s B) I .used = omega arith in rw z at (talk-part n I (begun s B))
+pub fed-part : (n : ℕ) (s : Session) (B L I : List ℕ) → talked n (begun s B L) I ≡ heardAll (begun s B L) (take (talked n (begun s B L) I .used) I)
+fed-part n s B L I = let z : talked n (begun s B L) I .used - 0 ≡ talked n (begun s B L) I .used = omega arith in rw z at (talk-part n I (begun s B L))
 
 -- with room for a reply it hears at least one byte
-pub fed-some : (n : ℕ) (s : Session) (B : List ℕ) (b : ℕ) (I : List ℕ) → room ≤ n → 0 < talked n (begun s B) (b ∷ I) .used
+pub fed-some : (n : ℕ) (s : Session) (B L : List ℕ) (b : ℕ) (I : List ℕ) → room ≤ n → 0 < talked n (begun s B L) (b ∷ I) .used
 unfolding talked
-fed-some n s B b I h = rw (le-leb (0 + room) n h) (omega (arith, used-grows n I (heard (begun s B) b)))
+fed-some n s B L b I h = rw (le-leb (0 + room) n h) (omega (arith, used-grows n I (heard (begun s B L) b)))
+
+-- a talk that begins where another stands
+abbrev pub anew : Talk → Talk
+anew t = begun (t .session) (t .board) (t .list)
 
 -- a talk goes on as a new one would, after what was said before
 onto : Talk → Talk → Talk
-onto t u = record { session = u .session; board = u .board; said = t .said ++ u .said; used = t .used + u .used }
+onto t u = record { session = u .session; board = u .board; list = u .list; said = t .said ++ u .said; used = t .used + u .used }
 
-go-on : (s : List ℕ) (t : Talk) → heardAll t s ≡ onto t (heardAll (begun (t .session) (t .board)) s)
+go-on : (s : List ℕ) (t : Talk) → heardAll t s ≡ onto t (heardAll (anew t) s)
 unfolding onto heardAll
 go-on [] t = let z : t .used + 0 ≡ t .used = omega arith in rw (append-nil (t .said), z) refl
 go-on (b ∷ s) t =
-    let u = heardAll (begun (heard t b .session) (heard t b .board)) s in
+    let u = heardAll (anew (heard t b)) s in
     let z : t .used + 1 + u .used ≡ t .used + (0 + 1 + u .used) = omega arith in
-    rw (go-on s (heard t b), go-on s (heard (begun (t .session) (t .board)) b), z, append-assoc (t .said) (saidOf (t .session) (t .board) b) (u .said)) refl
+    rw (go-on s (heard t b), go-on s (heard (anew t) b), z, append-assoc (t .said) (saidOf (t .session) (t .board) (t .list) b) (u .said)) refl
 
 pub heard-append : (s r : List ℕ) (t : Talk) → heardAll t (s ++ r) ≡ heardAll (heardAll t s) r
 unfolding heardAll
@@ -59,15 +63,16 @@ heard-append (b ∷ s) r t = heard-append s r (heard t b)
 
 -- what is said of two parts is what is said of the whole
 pub said-parts : (s r : List ℕ) (t : Talk)
-    → heardAll t (s ++ r) .said ≡ heardAll t s .said ++ heardAll (begun (heardAll t s .session) (heardAll t s .board)) r .said
+    → heardAll t (s ++ r) .said ≡ heardAll t s .said ++ heardAll (anew (heardAll t s)) r .said
 unfolding onto
 said-parts s r t = ap (λ (u : Talk). u .said) (heard-append s r t ∙ go-on r (heardAll t s))
 
--- and so are the session and the board
+-- and so are the session, the board and the list
 pub left-parts : (s r : List ℕ) (t : Talk)
-    → (heardAll t (s ++ r) .session ≡ heardAll (begun (heardAll t s .session) (heardAll t s .board)) r .session)
-    × (heardAll t (s ++ r) .board ≡ heardAll (begun (heardAll t s .session) (heardAll t s .board)) r .board)
+    → (heardAll t (s ++ r) .session ≡ heardAll (anew (heardAll t s)) r .session)
+    × (heardAll t (s ++ r) .board ≡ heardAll (anew (heardAll t s)) r .board)
+    × (heardAll t (s ++ r) .list ≡ heardAll (anew (heardAll t s)) r .list)
 unfolding onto
 left-parts s r t =
     let e = heard-append s r t ∙ go-on r (heardAll t s) in
-    (ap (λ (u : Talk). u .session) e, ap (λ (u : Talk). u .board) e)
+    (ap (λ (u : Talk). u .session) e, ap (λ (u : Talk). u .board) e, ap (λ (u : Talk). u .list) e)

@@ -1,4 +1,4 @@
--- No second answer fits the promises of `step`, `feed` and `finish`: the result, the board and the lent bytes are decided. (That of `parse` is one equation.)
+-- No second answer fits the promises of `step`, `feed` and `finish`: the result, the board, the list and the lent bytes are decided. (That of `parse` is one equation.)
 -- Assumes nothing.
 use mathlib.Core.Path.{_≡_, sym, _∙_}
 use mathlib.Core.List.{List}
@@ -13,10 +13,10 @@ use Rattle.lines.specs.Sessions.{Answered}
 unique : {A : Type 0} {x y z : A} → x ≡ z → y ≡ z → x ≡ y
 unique p q = p ∙ sym q
 
-pub step-unique : (L : List ℕ) (d : Drive) (B O : List ℕ) {r q : Stepped} {B′ O′ B″ O″ : List ℕ}
-    → Steps L d B O r B′ O′ → Steps L d B O q B″ O″ → (r ≡ q) × (B′ ≡ B″) × (O′ ≡ O″)
-step-unique L d B O p q = (unique (p .0) (q .0), unique (p .1) (q .1), unique (p .2) (q .2))
+pub step-unique : (l : List ℕ) (d : Drive) (B L O : List ℕ) {r q : Stepped} {B′ L′ O′ B″ L″ O″ : List ℕ}
+    → Steps l d B L O r B′ L′ O′ → Steps l d B L O q B″ L″ O″ → (r ≡ q) × (B′ ≡ B″) × (L′ ≡ L″) × (O′ ≡ O″)
+step-unique l d B L O p q = (unique (p .0) (q .0), unique (p .1) (q .1), unique (p .2) (q .2), unique (p .3) (q .3))
 
-pub answered-unique : {s : Session} {I B O : List ℕ} {r q : Fed} {B′ O′ B″ O″ : List ℕ}
-    → Answered s I B O r B′ O′ → Answered s I B O q B″ O″ → (r ≡ q) × (B′ ≡ B″) × (O′ ≡ O″)
-answered-unique p q = (unique (p .handed) (q .handed), unique (p .board) (q .board), unique (p .bytes) (q .bytes))
+pub answered-unique : {s : Session} {I B L O : List ℕ} {r q : Fed} {B′ L′ O′ B″ L″ O″ : List ℕ}
+    → Answered s I B L O r B′ L′ O′ → Answered s I B L O q B″ L″ O″ → (r ≡ q) × (B′ ≡ B″) × (L′ ≡ L″) × (O′ ≡ O″)
+answered-unique p q = (unique (p .handed) (q .handed), unique (p .board) (q .board), unique (p .list) (q .list), unique (p .bytes) (q .bytes))

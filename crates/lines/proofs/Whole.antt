@@ -15,7 +15,7 @@ use Rattle.calls.specs.Records.{driveAt}
 use Rattle.lines.specs.declared.hearing.Session.{Session}
 use Rattle.lines.specs.Grammar.{parsed}
 use Rattle.lines.specs.Printing.{blank}
-use Rattle.lines.specs.Replies.{reply, driveAfter, boardAfter}
+use Rattle.lines.specs.Replies.{reply, driveAfter, boardAfter, listAfter}
 use Rattle.lines.specs.Sessions.{keptBytes, started, lineOf, kept, ended, lastOf, Talk, heard, begun}
 use Rattle.lines.specs.Console.{linesAfter, linesOf, answers, heardAll, heardOut}
 use Rattle.lines.proofs.Cuts.{by-bool}
@@ -67,14 +67,15 @@ keeps-last s w k =
 line-end : Talk → Talk
 line-end t =
     record {
-      session = ended (t .session) (t .board);
-      board = boardAfter (parsed (lineOf (t .session))) (t .session .drive) (t .board);
-      said = t .said ++ reply (parsed (lineOf (t .session))) (t .session .drive) (t .board);
+      session = ended (t .session) (t .board) (t .list);
+      board = boardAfter (parsed (lineOf (t .session))) (t .session .drive) (t .board) (t .list);
+      list = listAfter (parsed (lineOf (t .session))) (t .session .drive) (t .board) (t .list);
+      said = t .said ++ reply (parsed (lineOf (t .session))) (t .session .drive) (t .board) (t .list);
       used = t .used + 1;
     }
 
 in-line : Talk → ℕ → Talk
-in-line t b = record { session = kept (t .session) b; board = t .board; said = t .said ++ []; used = t .used + 1 }
+in-line t b = record { session = kept (t .session) b; board = t .board; list = t .list; said = t .said ++ []; used = t .used + 1 }
 
 heard-end : (t : Talk) (b : ℕ) → eqb b 10 ≡ true → heard t b ≡ line-end t
 unfolding line-end
@@ -92,20 +93,20 @@ kept-drive : (s : Session) (b : ℕ) → kept s b .drive ≡ s .drive
 kept-drive s b = by-bool (ltb (s .count) keptBytes) (λ e. rw e refl) (λ e. rw e refl)
 
 -- the end of the input
-at-end : (t : Talk) (w : List ℕ) → Keeps (t .session) w → heardOut t [] .said ≡ t .said ++ answers (t .session .drive) (t .board) (linesAfter w [])
+at-end : (t : Talk) (w : List ℕ) → Keeps (t .session) w → heardOut t [] .said ≡ t .said ++ answers (t .session .drive) (t .board) (t .list) (linesAfter w [])
 unfolding heardOut heardAll answers linesAfter
 at-end t [] k = rw (keeps-last (t .session) [] k) (sym (append-nil (t .said)))
 at-end t (c ∷ w) k =
     rw (keeps-last (t .session) (c ∷ w) k, ne-eqb (length (c ∷ w)) 0 (λ e. omega arith), keeps-parsed (t .session) (c ∷ w) k)
-    (ap (λ (s : List ℕ). t .said ++ s) (sym (append-nil (reply (parsed (c ∷ w)) (t .session .drive) (t .board)))))
+    (ap (λ (s : List ℕ). t .said ++ s) (sym (append-nil (reply (parsed (c ∷ w)) (t .session .drive) (t .board) (t .list)))))
 
 -- one byte more, of what was said and of the lines that are left
 module _ (s : List ℕ) (t : Talk) (w : List ℕ) (b : ℕ) (k : Keeps (t .session) w) where
   abbrev Said : Talk → List ℕ → Type 0
-  Said u v = heardOut u s .said ≡ u .said ++ answers (u .session .drive) (u .board) (linesAfter v s)
+  Said u v = heardOut u s .said ≡ u .said ++ answers (u .session .drive) (u .board) (u .list) (linesAfter v s)
 
   abbrev Wanted : Type 0
-  Wanted = heardOut t (b ∷ s) .said ≡ t .said ++ answers (t .session .drive) (t .board) (linesAfter w (b ∷ s))
+  Wanted = heardOut t (b ∷ s) .said ≡ t .said ++ answers (t .session .drive) (t .board) (t .list) (linesAfter w (b ∷ s))
 
   ends : eqb b 10 ≡ true → (Keeps (line-end t .session) [] → Said (line-end t) []) → Wanted
   unfolding line-end answers linesAfter
@@ -113,8 +114,9 @@ module _ (s : List ℕ) (t : Talk) (w : List ℕ) (b : ℕ) (k : Keeps (t .sessi
       rw (out-more t b s, heard-end t b e, e)
       (more (keeps-none (line-end t .session) (k .full) refl)
       ∙ rw (keeps-parsed (t .session) w k)
-      (append-assoc (t .said) (reply (parsed w) (t .session .drive) (t .board))
-      (answers (driveAfter (parsed w) (t .session .drive) (t .board)) (boardAfter (parsed w) (t .session .drive) (t .board)) (linesAfter [] s))))
+      (append-assoc (t .said) (reply (parsed w) (t .session .drive) (t .board) (t .list))
+      (answers (driveAfter (parsed w) (t .session .drive) (t .board) (t .list)) (boardAfter (parsed w) (t .session .drive) (t .board) (t .list))
+      (listAfter (parsed w) (t .session .drive) (t .board) (t .list)) (linesAfter [] s))))
 
   goes : eqb b 10 ≡ false → (Keeps (in-line t b .session) (w ++ (b ∷ [])) → Said (in-line t b) (w ++ (b ∷ []))) → Wanted
   unfolding in-line linesAfter
@@ -124,12 +126,12 @@ module _ (s : List ℕ) (t : Talk) (w : List ℕ) (b : ℕ) (k : Keeps (t .sessi
 
 -- what was said, and the answers of the lines that are left
 said-out : (s : List ℕ) (t : Talk) (w : List ℕ) → Keeps (t .session) w
-    → heardOut t s .said ≡ t .said ++ answers (t .session .drive) (t .board) (linesAfter w s)
+    → heardOut t s .said ≡ t .said ++ answers (t .session .drive) (t .board) (t .list) (linesAfter w s)
 said-out [] t w k = at-end t w k
 said-out (b ∷ s) t w k =
     by-bool (eqb b 10) (λ e. ends s t w b k e (said-out s (line-end t) [])) (λ e. goes s t w b k e (said-out s (in-line t b) (w ++ (b ∷ []))))
 
 -- from its start to the end of the input, the console prints the answers of the input's lines
-pub console-said : (s B : List ℕ) → heardOut (begun started B) s .said ≡ answers (driveAt 0 0) B (linesOf s)
+pub console-said : (s B L : List ℕ) → heardOut (begun started B L) s .said ≡ answers (driveAt 0 0) B L (linesOf s)
 unfolding blank
-console-said s B = said-out s (begun started B) [] (keeps-none started refl refl)
+console-said s B L = said-out s (begun started B L) [] (keeps-none started refl refl)

@@ -1,4 +1,4 @@
--- The language of the console's input: document 01, "Console". A line is the list of its bytes, without the line feed.
+-- The language of the console's input: document 01, "Console", and document 02, No. 2, for `fetch`. A line is the list of its bytes, without the line feed.
 -- Assumes nothing.
 use mathlib.Core.Bool.{Bool, true, false, cond, _&&_}
 use mathlib.Core.List.{List, [], _∷_}
@@ -6,7 +6,7 @@ use Prim.Native.Nat.{ℕ, suc, _+_, _-_, _*_, max}
 use lib.Dec.{leb, eqb}
 use lib.ListN.{length}
 use Rattle.lines.specs.declared.Command.{Command}
-use Rattle.lines.specs.declared.Command.the-variants.{Open, Add, Remove, Slot, Round, Unknown}
+use Rattle.lines.specs.declared.Command.the-variants.{Open, Add, Remove, Slot, Round, Fetch, Unknown}
 use Rattle.lines.specs.declared.reading.Numeral.{Numeral}
 use Rattle.lines.specs.declared.reading.Numeral.the-variants.{Value, Nothing}
 
@@ -59,7 +59,14 @@ mostDigits = 5
 abbrev pub number : List ℕ → Numeral
 number w = numeral mostDigits 65535 w
 
--- the words `open`, `add`, `remove`, `slot`, `round`
+-- "`fetch TICKET` takes up to 20 digits, below 2^64"
+abbrev pub ticketDigits : ℕ
+ticketDigits = 20
+
+abbrev pub ticket : List ℕ → Numeral
+ticket w = numeral ticketDigits 18446744073709551615 w
+
+-- the words `open`, `add`, `remove`, `slot`, `round`, `fetch`
 abbrev pub openWord : List ℕ
 openWord = 111 ∷ 112 ∷ 101 ∷ 110 ∷ []
 
@@ -75,14 +82,19 @@ slotWord = 115 ∷ 108 ∷ 111 ∷ 116 ∷ []
 abbrev pub roundWord : List ℕ
 roundWord = 114 ∷ 111 ∷ 117 ∷ 110 ∷ 100 ∷ []
 
--- how many bytes a line has of a word and n numbers, each with the most digits and a space before it
-abbrev pub span : List ℕ → ℕ → ℕ
-span w n = length w + n * (1 + mostDigits)
+abbrev pub fetchWord : List ℕ
+fetchWord = 102 ∷ 101 ∷ 116 ∷ 99 ∷ 104 ∷ []
+
+-- how many bytes a line has of a word and n numbers, each with m digits and a space before it
+abbrev pub span : List ℕ → ℕ → ℕ → ℕ
+span w n m = length w + n * (1 + m)
 
 -- how many bytes the longest command has
 abbrev pub longest : ℕ
 longest =
-    max (max (max (span openWord 1) (span addWord 2)) (max (span removeWord 1) (span slotWord 0))) (span roundWord 0)
+    max
+    (max (max (span openWord 1 mostDigits) (span addWord 2 mostDigits)) (span removeWord 1 mostDigits))
+    (max (max (length slotWord) (length roundWord)) (span fetchWord 1 ticketDigits))
 
 -- `slot`, `round`
 unfoldable pub alone : List ℕ → Command
@@ -92,6 +104,11 @@ alone w = cond (same w slotWord) Slot (cond (same w roundWord) Round Unknown)
 unfoldable pub withOne : List ℕ → Numeral → Command
 withOne w Nothing = Unknown
 withOne w (Value x) = cond (same w openWord) (Open x) (cond (same w removeWord) (Remove x) Unknown)
+
+-- `fetch TICKET`
+abbrev pub withTicket : Numeral → Command
+withTicket Nothing = Unknown
+withTicket (Value t) = Fetch t
 
 -- `add NAME WEIGHT`
 unfoldable pub withTwo : List ℕ → Numeral → Numeral → Command
@@ -103,7 +120,7 @@ withTwo w (Value x) (Value y) = cond (same w addWord) (Add x y) Unknown
 unfoldable pub command : List (List ℕ) → Command
 command [] = Unknown
 command (w ∷ []) = alone w
-command (w ∷ x ∷ []) = withOne w (number x)
+command (w ∷ x ∷ []) = cond (same w fetchWord) (withTicket (ticket x)) (withOne w (number x))
 command (w ∷ x ∷ y ∷ []) = withTwo w (number x) (number y)
 command (w ∷ x ∷ y ∷ z ∷ ws) = Unknown
 

@@ -1,26 +1,30 @@
--- What a command does and what the console prints of it: document 01, "Console". What the calls do is the promises of `calls`.
+-- What a command does and what the console prints of it: document 01, "Console", and document 02, No. 2 and No. 5. What the calls do is the promises
+-- of `orders`, `waiting` and, for a round, `calls`. B is the board, L the waiting list.
 -- Assumes nothing.
 use mathlib.Core.Path.{_≡_}
-use mathlib.Core.Bool.{cond}
+use mathlib.Core.Bool.{cond, _||_}
 use mathlib.Core.List.{List, [], _∷_}
 use Prim.Native.Nat.{ℕ, _+_, _≤_}
-use lib.Dec.{leb}
+use lib.Dec.{leb, eqb}
 use lib.ListN.{length}
 use lib.Seq.{sets}
 use Rattle.calls.specs.declared.Drive.{Drive}
-use Rattle.calls.specs.declared.Refusal.the-variants.{Room}
 use Rattle.calls.specs.declared.Opening.{Opening}
 use Rattle.calls.specs.declared.Opening.the-variants as opening
-use Rattle.calls.specs.declared.Change.{Change}
-use Rattle.calls.specs.declared.Change.the-variants as change
 use Rattle.calls.specs.declared.Serving.{Serving}
 use Rattle.calls.specs.declared.Serving.the-variants as serving
 use Rattle.calls.specs.declared.Rounding.{Rounding}
 use Rattle.calls.specs.declared.Rounding.the-variants as rounding
 use Rattle.calls.specs.Refusals.{numberOf, roundCheck}
-use Rattle.calls.specs.Results.{roundingBy, opened, openedBoard, added, addedBoard, removed, removedBoard, served, roundNames}
+use Rattle.calls.specs.Results.{roundingBy, roundNames}
+use Rattle.waiting.specs.declared.Fetching.{Fetching}
+use Rattle.waiting.specs.declared.Fetching.the-variants as fetching
+use Rattle.waiting.specs.Layout.{fetched, fetchedList}
+use Rattle.orders.specs.declared.Ordering.{Ordering}
+use Rattle.orders.specs.declared.Ordering.the-variants as ordering
+use Rattle.orders.specs.Results.{opened, openedBoard, openedList, addOrder, removeOrder, changed, changedBoard, changedList, served, servedBoard, servedList}
 use Rattle.lines.specs.declared.Command.{Command}
-use Rattle.lines.specs.declared.Command.the-variants.{Open, Add, Remove, Slot, Round, Unknown}
+use Rattle.lines.specs.declared.Command.the-variants.{Open, Add, Remove, Slot, Round, Fetch, Unknown}
 use Rattle.lines.specs.declared.talking.Stepped.{Stepped}
 use Rattle.lines.specs.Grammar.{parsed}
 use Rattle.lines.specs.Printing.{line, unknown}
@@ -31,10 +35,13 @@ abbrev pub openingLine : Opening → List ℕ
 openingLine opening.Done = line 0 []
 openingLine (opening.Refused r) = line (numberOf r) []
 
-abbrev pub changeLine : Change → List ℕ
-changeLine (change.Done idle) = line 0 (idle ∷ [])
-changeLine (change.Room idle) = line (numberOf Room) (idle ∷ [])
-changeLine (change.Refused r) = line (numberOf r) []
+-- No. 5: 10 and the idle leaves there are. No. 2: 13 and the ticket; 14.
+abbrev pub orderingLine : Ordering → List ℕ
+orderingLine (ordering.Done idle) = line 0 (idle ∷ [])
+orderingLine (ordering.Room idle) = line 10 (idle ∷ [])
+orderingLine (ordering.Waiting ticket) = line 13 (ticket ∷ [])
+orderingLine ordering.Queue = line 14 []
+orderingLine (ordering.Refused r) = line (numberOf r) []
 
 abbrev pub servingLine : Serving → List ℕ
 servingLine (serving.Slot name leaf passed round) = line 0 (name ∷ leaf ∷ [])
@@ -44,14 +51,29 @@ abbrev pub roundingLine : Rounding → List ℕ → List ℕ
 roundingLine rounding.Done names = line 0 names
 roundingLine (rounding.Refused r) names = line (numberOf r) []
 
--- the line printed for a command, of a record and a board. A round is written to an output of 4,095 entries.
-unfoldable pub reply : Command → Drive → List ℕ → List ℕ
-reply (Open C) d B = openingLine (opened C B .answer)
-reply (Add x w) d B = changeLine (added d B x w .answer)
-reply (Remove x) d B = changeLine (removed d B x .answer)
-reply Slot d B = servingLine (served d B .answer)
-reply Round d B = roundingLine (roundingBy (roundCheck d B 4095)) (roundNames (d .capacity) B)
-reply Unknown d B = unknown
+-- a round is written to an output of 4,095 entries
+unfoldable pub roundLine : Drive → List ℕ → List ℕ
+roundLine d B = roundingLine (roundingBy (roundCheck d B 4095)) (roundNames (d .capacity) B)
+
+-- an answer that was fetched, as the change would have printed it: the idle leaves after 0 and after 10, any other number alone
+abbrev pub outcomeLine : ℕ → ℕ → List ℕ
+outcomeLine n v = cond (eqb n 0 || eqb n 10) (line n (v ∷ [])) (line n [])
+
+-- "`fetch TICKET` .. prints what it fetched": the answer; 13 and the ticket while the order waits; 15 for no known ticket
+abbrev pub fetchingLine : Fetching → List ℕ
+fetchingLine (fetching.Answer n v) = outcomeLine n v
+fetchingLine (fetching.Waits ticket) = line 13 (ticket ∷ [])
+fetchingLine fetching.Unknown = line 15 []
+
+-- the line printed for a command, of a record, a board and a list
+unfoldable pub reply : Command → Drive → List ℕ → List ℕ → List ℕ
+reply (Open C) d B L = openingLine (opened C B (length L) .answer)
+reply (Add x w) d B L = orderingLine (changed d B L (addOrder x w) .answer)
+reply (Remove x) d B L = orderingLine (changed d B L (removeOrder x) .answer)
+reply Slot d B L = servingLine (served d B L .answer)
+reply Round d B L = roundLine d B
+reply (Fetch t) d B L = fetchingLine (fetched L t)
+reply Unknown d B L = unknown
 
 -- "A refused open keeps the old record."
 abbrev pub keptBy : Opening → Drive → Drive → Drive
@@ -59,22 +81,34 @@ keptBy opening.Done new old = new
 keptBy (opening.Refused r) new old = old
 
 -- the record after a command
-unfoldable pub driveAfter : Command → Drive → List ℕ → Drive
-driveAfter (Open C) d B = keptBy (opened C B .answer) (opened C B .drive) d
-driveAfter (Add x w) d B = added d B x w .drive
-driveAfter (Remove x) d B = removed d B x .drive
-driveAfter Slot d B = served d B .drive
-driveAfter Round d B = d
-driveAfter Unknown d B = d
+unfoldable pub driveAfter : Command → Drive → List ℕ → List ℕ → Drive
+driveAfter (Open C) d B L = keptBy (opened C B (length L) .answer) (opened C B (length L) .drive) d
+driveAfter (Add x w) d B L = changed d B L (addOrder x w) .drive
+driveAfter (Remove x) d B L = changed d B L (removeOrder x) .drive
+driveAfter Slot d B L = served d B L .drive
+driveAfter Round d B L = d
+driveAfter (Fetch t) d B L = d
+driveAfter Unknown d B L = d
 
 -- the board after a command
-unfoldable pub boardAfter : Command → Drive → List ℕ → List ℕ
-boardAfter (Open C) d B = openedBoard C B
-boardAfter (Add x w) d B = addedBoard d B x w
-boardAfter (Remove x) d B = removedBoard d B x
-boardAfter Slot d B = B
-boardAfter Round d B = B
-boardAfter Unknown d B = B
+unfoldable pub boardAfter : Command → Drive → List ℕ → List ℕ → List ℕ
+boardAfter (Open C) d B L = openedBoard C B (length L)
+boardAfter (Add x w) d B L = changedBoard d B L (addOrder x w)
+boardAfter (Remove x) d B L = changedBoard d B L (removeOrder x)
+boardAfter Slot d B L = servedBoard d B L
+boardAfter Round d B L = B
+boardAfter (Fetch t) d B L = B
+boardAfter Unknown d B L = B
+
+-- the list after a command
+unfoldable pub listAfter : Command → Drive → List ℕ → List ℕ → List ℕ
+listAfter (Open C) d B L = openedList C B L
+listAfter (Add x w) d B L = changedList d B L (addOrder x w)
+listAfter (Remove x) d B L = changedList d B L (removeOrder x)
+listAfter Slot d B L = servedList d B L
+listAfter Round d B L = L
+listAfter (Fetch t) d B L = fetchedList L t
+listAfter Unknown d B L = L
 
 -- room for any reply: an answer number of two digits, 4,095 values of five digits, each after a space, and a line feed
 abbrev pub room : ℕ
@@ -90,19 +124,23 @@ pub record Told (d : Drive) (said : List ℕ) (out : List ℕ) (at : ℕ) (r : S
 -- ---- one line
 
 -- what a step over a line gives: the record after the command that the line is, and how many bytes its reply has; with less room than a reply may need, nothing is done
-abbrev pub stepped : List ℕ → Drive → List ℕ → List ℕ → Stepped
-stepped L d B O =
+abbrev pub stepped : List ℕ → Drive → List ℕ → List ℕ → List ℕ → Stepped
+stepped l d B L O =
     cond (leb room (length O))
-    (record { drive = driveAfter (parsed L) d B; to = length (reply (parsed L) d B) })
+    (record { drive = driveAfter (parsed l) d B L; to = length (reply (parsed l) d B L) })
     (record { drive = d; to = 0 })
 
-abbrev pub steppedBoard : List ℕ → Drive → List ℕ → List ℕ → List ℕ
-steppedBoard L d B O = cond (leb room (length O)) (boardAfter (parsed L) d B) B
+abbrev pub steppedBoard : List ℕ → Drive → List ℕ → List ℕ → List ℕ → List ℕ
+steppedBoard l d B L O = cond (leb room (length O)) (boardAfter (parsed l) d B L) B
+
+abbrev pub steppedList : List ℕ → Drive → List ℕ → List ℕ → List ℕ → List ℕ
+steppedList l d B L O = cond (leb room (length O)) (listAfter (parsed l) d B L) L
 
 -- the reply stands at the start of the lent bytes, and the bytes after it are as they were
-abbrev pub steppedBytes : List ℕ → Drive → List ℕ → List ℕ → List ℕ
-steppedBytes L d B O = cond (leb room (length O)) (sets O 0 (reply (parsed L) d B)) O
+abbrev pub steppedBytes : List ℕ → Drive → List ℕ → List ℕ → List ℕ → List ℕ
+steppedBytes l d B L O = cond (leb room (length O)) (sets O 0 (reply (parsed l) d B L)) O
 
--- What a step over a line L promises: the result, and the board and the lent bytes at exit.
-abbrev pub Steps : List ℕ → Drive → List ℕ → List ℕ → Stepped → List ℕ → List ℕ → Type 0
-Steps L d B O r B′ O′ = (r ≡ stepped L d B O) × (B′ ≡ steppedBoard L d B O) × (O′ ≡ steppedBytes L d B O)
+-- What a step over a line l promises: the result, and the board, the list and the lent bytes at exit.
+abbrev pub Steps : List ℕ → Drive → List ℕ → List ℕ → List ℕ → Stepped → List ℕ → List ℕ → List ℕ → Type 0
+Steps l d B L O r B′ L′ O′ =
+    (r ≡ stepped l d B L O) × (B′ ≡ steppedBoard l d B L O) × (L′ ≡ steppedList l d B L O) × (O′ ≡ steppedBytes l d B L O)

@@ -13,7 +13,7 @@ use Rattle.lines.specs.declared.hearing.Heard.{Heard}
 use Rattle.lines.specs.declared.hearing.Fed.{Fed}
 use Rattle.lines.specs.Grammar.{longest, parsed}
 use Rattle.lines.specs.Printing.{blank}
-use Rattle.lines.specs.Replies.{room, reply, driveAfter, boardAfter}
+use Rattle.lines.specs.Replies.{room, reply, driveAfter, boardAfter, listAfter}
 
 -- how many bytes of a line are kept: one more than the longest command has, so that of a longer line more is kept than any command has
 abbrev pub keptBytes : ℕ
@@ -35,30 +35,35 @@ kept s b =
     s
 
 -- the session once its line has ended: the command was carried out, and the next line begins
-abbrev pub ended : Session → List ℕ → Session
-ended s B = record { drive = driveAfter (parsed (lineOf s)) (s .drive) B; start = s .start; count = 0 }
+abbrev pub ended : Session → List ℕ → List ℕ → Session
+ended s B L = record { drive = driveAfter (parsed (lineOf s)) (s .drive) B L; start = s .start; count = 0 }
 
--- what one byte does to the session and the board, and what is said of it: a line feed ends the line
-abbrev pub sessionAfter : Session → List ℕ → ℕ → Session
-sessionAfter s B b = cond (eqb b 10) (ended s B) (kept s b)
+-- what one byte does to the session, the board and the list, and what is said of it: a line feed ends the line
+abbrev pub sessionAfter : Session → List ℕ → List ℕ → ℕ → Session
+sessionAfter s B L b = cond (eqb b 10) (ended s B L) (kept s b)
 
-abbrev pub boardHeard : Session → List ℕ → ℕ → List ℕ
-boardHeard s B b = cond (eqb b 10) (boardAfter (parsed (lineOf s)) (s .drive) B) B
+abbrev pub boardHeard : Session → List ℕ → List ℕ → ℕ → List ℕ
+boardHeard s B L b = cond (eqb b 10) (boardAfter (parsed (lineOf s)) (s .drive) B L) B
 
-abbrev pub saidOf : Session → List ℕ → ℕ → List ℕ
-saidOf s B b = cond (eqb b 10) (reply (parsed (lineOf s)) (s .drive) B) []
+abbrev pub listHeard : Session → List ℕ → List ℕ → ℕ → List ℕ
+listHeard s B L b = cond (eqb b 10) (listAfter (parsed (lineOf s)) (s .drive) B L) L
 
--- What hearing gives at a place of the lent bytes O: the next session and board, what is said from that place on, and nothing else of the bytes changed.
-pub record Hears (next : Session) (board said O : List ℕ) (at : ℕ) (r : Heard) (B′ O′ : List ℕ) : Type 0 where
+abbrev pub saidOf : Session → List ℕ → List ℕ → ℕ → List ℕ
+saidOf s B L b = cond (eqb b 10) (reply (parsed (lineOf s)) (s .drive) B L) []
+
+-- What hearing gives at a place of the lent bytes O: the next session, board and list, what is said from that place on, and nothing else of the bytes changed.
+pub record Hears (next : Session) (board list said O : List ℕ) (at : ℕ) (r : Heard) (B′ L′ O′ : List ℕ) : Type 0 where
   pub handed : r ≡ record { session = next; to = at + length said }
   pub leaves : B′ ≡ board
+  pub waits : L′ ≡ list
   pub bytes : O′ ≡ sets O at said
   pub within : r .to ≤ at + room
 
--- A talk: the session, the board, all that was said, and how many bytes were heard.
+-- A talk: the session, the board, the list, all that was said, and how many bytes were heard.
 pub record Talk : Type 0 where
   pub session : Session
   pub board : List ℕ
+  pub list : List ℕ
   pub said : List ℕ
   pub used : ℕ
 
@@ -66,9 +71,10 @@ pub record Talk : Type 0 where
 abbrev pub heard : Talk → ℕ → Talk
 heard t b =
     record {
-      session = sessionAfter (t .session) (t .board) b;
-      board = boardHeard (t .session) (t .board) b;
-      said = t .said ++ saidOf (t .session) (t .board) b;
+      session = sessionAfter (t .session) (t .board) (t .list) b;
+      board = boardHeard (t .session) (t .board) (t .list) b;
+      list = listHeard (t .session) (t .board) (t .list) b;
+      said = t .said ++ saidOf (t .session) (t .board) (t .list) b;
       used = t .used + 1;
     }
 
@@ -78,8 +84,8 @@ talked n t [] = t
 talked n t (b ∷ s) = let more = talked n (heard t b) s in cond (leb (length (t .said) + room) n) more t
 
 -- a talk that begins
-abbrev pub begun : Session → List ℕ → Talk
-begun s B = record { session = s; board = B; said = []; used = 0 }
+abbrev pub begun : Session → List ℕ → List ℕ → Talk
+begun s B L = record { session = s; board = B; list = L; said = []; used = 0 }
 
 -- what is handed back of a talk
 abbrev pub fedBy : Talk → Fed
@@ -94,9 +100,10 @@ abbrev pub Counts : ℕ → List ℕ → Type 0
 Counts n xs = (n ≤ length xs) × (n ≡ length (take n xs))
 
 -- What hearing an input I gives: the talk over it, as far as the lent bytes O have room. What was said stands at their start, and the bytes after it are as they were.
-pub record Answered (s : Session) (I B O : List ℕ) (r : Fed) (B′ O′ : List ℕ) : Type 0 where
-  pub handed : r ≡ fedBy (talked (length O) (begun s B) I)
-  pub board : B′ ≡ talked (length O) (begun s B) I .board
-  pub bytes : O′ ≡ sets O 0 (talked (length O) (begun s B) I .said)
+pub record Answered (s : Session) (I B L O : List ℕ) (r : Fed) (B′ L′ O′ : List ℕ) : Type 0 where
+  pub handed : r ≡ fedBy (talked (length O) (begun s B L) I)
+  pub board : B′ ≡ talked (length O) (begun s B L) I .board
+  pub list : L′ ≡ talked (length O) (begun s B L) I .list
+  pub bytes : O′ ≡ sets O 0 (talked (length O) (begun s B L) I .said)
   pub used : r .used ≤ length I
   pub counts : Counts (r .to) O′

@@ -7,12 +7,12 @@ ghost use mathlib.Core.Path.{_≡_};
 ghost use Prim.Native.Nat.{_+_, _≤_, min};
 ghost use lib.ListN.{length};
 ghost use Rattle.lines.specs.Grammar.{parsed};
-ghost use Rattle.lines.specs.Replies.{room, reply, boardAfter};
-ghost use Rattle.lines.specs.Sessions.{started, lineOf, kept as Sessions·kept, ended, sessionAfter, boardHeard, saidOf, lastOf, Hears, Answered};
+ghost use Rattle.lines.specs.Replies.{room, reply, boardAfter, listAfter};
+ghost use Rattle.lines.specs.Sessions.{started, lineOf, kept as Sessions·kept, ended, sessionAfter, boardHeard, listHeard, saidOf, lastOf, Hears, Answered};
 
-// How many bytes of a line are kept: one more than the longest command has, which is `add` with two numbers of five
+// How many bytes of a line are kept: one more than the longest command has, which is `fetch` with a ticket of twenty
 // digits, so that a longer line is not understood, kept or whole.
-const KEPT: usize = 16;
+const KEPT: usize = 27;
 
 // The drive record, and what is kept of the line that is being heard.
 pub struct Session {
@@ -67,16 +67,16 @@ fn least(a: usize, b: usize) -> usize
 }
 
 // The end of a line: it is answered at a place of the lent bytes.
-fn end_line(s: Session, board: &mut [u16], out: &mut [u8], at: usize) -> Heard
+fn end_line(s: Session, board: &mut [u16], list: &mut [u64], out: &mut [u8], at: usize) -> Heard
     requires { ⌜ at + room ≤ length (now out) ⌝ }
-    ensures { λ r. ⌜ Hears (ended s (now (board .entry))) (boardAfter (parsed (lineOf s)) (s .drive) (now (board .entry))) (reply (parsed (lineOf s)) (s .drive) (now (board .entry))) (now (out .entry)) at r (now (board .exit)) (now (out .exit)) ⌝ }
+    ensures { λ r. ⌜ Hears (ended s (now (board .entry)) (now (list .entry))) (boardAfter (parsed (lineOf s)) (s .drive) (now (board .entry)) (now (list .entry))) (listAfter (parsed (lineOf s)) (s .drive) (now (board .entry)) (now (list .entry))) (reply (parsed (lineOf s)) (s .drive) (now (board .entry)) (now (list .entry))) (now (out .entry)) at r (now (board .exit)) (now (list .exit)) (now (out .exit)) ⌝ }
 {
     let start = s.start;
     let count = s.count;
     let drive = s.drive;
     let n = least(count, KEPT);
     let command = parse(&start[..n]);
-    let stepped = answer(command, drive, board, out, at);
+    let stepped = answer(command, drive, board, list, out, at);
     let next = stepped.drive;
     Heard {
         session: Session {
@@ -89,12 +89,12 @@ fn end_line(s: Session, board: &mut [u16], out: &mut [u8], at: usize) -> Heard
 }
 
 // One byte of input.
-fn hear(s: Session, b: u8, board: &mut [u16], out: &mut [u8], at: usize) -> Heard
+fn hear(s: Session, b: u8, board: &mut [u16], list: &mut [u64], out: &mut [u8], at: usize) -> Heard
     requires { ⌜ at + room ≤ length (now out) ⌝ }
-    ensures { λ r. ⌜ Hears (sessionAfter s (now (board .entry)) b) (boardHeard s (now (board .entry)) b) (saidOf s (now (board .entry)) b) (now (out .entry)) at r (now (board .exit)) (now (out .exit)) ⌝ }
+    ensures { λ r. ⌜ Hears (sessionAfter s (now (board .entry)) (now (list .entry)) b) (boardHeard s (now (board .entry)) (now (list .entry)) b) (listHeard s (now (board .entry)) (now (list .entry)) b) (saidOf s (now (board .entry)) (now (list .entry)) b) (now (out .entry)) at r (now (board .exit)) (now (list .exit)) (now (out .exit)) ⌝ }
 {
     if b == b'\n' {
-        return end_line(s, board, out, at);
+        return end_line(s, board, list, out, at);
     }
     Heard {
         session: s.kept(b),
@@ -104,8 +104,14 @@ fn hear(s: Session, b: u8, board: &mut [u16], out: &mut [u8], at: usize) -> Hear
 
 // Hears the input from its start, as long as the lent bytes have room for a reply, and writes what is said to their
 // start.
-pub fn feed(session: Session, input: &[u8], board: &mut [u16], out: &mut [u8]) -> Fed
-    ensures { λ r. ⌜ Answered session (now (input .entry)) (now (board .entry)) (now (out .entry)) r (now (board .exit)) (now (out .exit)) ⌝ }
+pub fn feed(
+    session: Session,
+    input: &[u8],
+    board: &mut [u16],
+    list: &mut [u64],
+    out: &mut [u8],
+) -> Fed
+    ensures { λ r. ⌜ Answered session (now (input .entry)) (now (board .entry)) (now (list .entry)) (now (out .entry)) r (now (board .exit)) (now (list .exit)) (now (out .exit)) ⌝ }
 {
     let mut s = session;
     let mut to: usize = 0;
@@ -118,7 +124,7 @@ pub fn feed(session: Session, input: &[u8], board: &mut [u16], out: &mut [u8]) -
                 to,
             };
         }
-        let heard = hear(s, input[i], board, out, to);
+        let heard = hear(s, input[i], board, list, out, to);
         s = heard.session;
         to = heard.to;
         i += 1;
@@ -131,8 +137,8 @@ pub fn feed(session: Session, input: &[u8], board: &mut [u16], out: &mut [u8]) -
 }
 
 // The end of the input: a line that has begun counts, though no line feed ended it.
-pub fn finish(session: Session, board: &mut [u16], out: &mut [u8]) -> Fed
-    ensures { λ r. ⌜ Answered session (lastOf session) (now (board .entry)) (now (out .entry)) r (now (board .exit)) (now (out .exit)) ⌝ }
+pub fn finish(session: Session, board: &mut [u16], list: &mut [u64], out: &mut [u8]) -> Fed
+    ensures { λ r. ⌜ Answered session (lastOf session) (now (board .entry)) (now (list .entry)) (now (out .entry)) r (now (board .exit)) (now (list .exit)) (now (out .exit)) ⌝ }
 {
     let count = session.count;
     if count == 0 {
@@ -142,5 +148,5 @@ pub fn finish(session: Session, board: &mut [u16], out: &mut [u8]) -> Fed
             to: 0,
         };
     }
-    feed(session, b"\n", board, out)
+    feed(session, b"\n", board, list, out)
 }

@@ -20,6 +20,7 @@ pub enum Command {
     Remove(u16),
     Slot,
     Round,
+    Fetch(u64),
     // Not understood.
     Unknown,
 }

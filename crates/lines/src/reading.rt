@@ -2,7 +2,7 @@
 use crate::Command;
 ghost use mathlib.Core.Path.{_≡_};
 ghost use mathlib.Core.List.{_∷_};
-ghost use Rattle.lines.specs.Grammar.{placeOf, words, same as Grammar·same, numeral, number as Grammar·number, alone as Grammar·alone, withOne, withTwo, command, parsed};
+ghost use Rattle.lines.specs.Grammar.{placeOf, words, same as Grammar·same, numeral, number as Grammar·number, ticket, alone as Grammar·alone, withOne, withTicket, withTwo, command, parsed};
 
 // A word read as a number.
 pub enum Numeral {
@@ -14,6 +14,11 @@ pub enum Numeral {
 const MOST_DIGITS: usize = 5;
 
 const LARGEST: usize = 65535;
+
+// Tickets have 1 to 20 digits and are below 2^64.
+const MOST_TICKET_DIGITS: usize = 20;
+
+const LARGEST_TICKET: usize = 18446744073709551615;
 
 // The place of the first `b` in `s`, or the length of `s` where it has none.
 fn find(s: &[u8], b: u8) -> usize
@@ -93,7 +98,7 @@ fn alone(word: &[u8]) -> Command
     Command::Unknown
 }
 
-// The command of a line of two words.
+// The command of a line of two words, the first not being `fetch`.
 fn with_one(word: &[u8], first: &[u8]) -> Command
     ensures { λ r. ⌜ r ≡ withOne (now (word .entry)) (Grammar·number (now (first .entry))) ⌝ }
 {
@@ -109,6 +114,16 @@ fn with_one(word: &[u8], first: &[u8]) -> Command
             }
             Command::Unknown
         }
+    }
+}
+
+// The command of a line of two words, the first being `fetch`.
+fn with_ticket(first: &[u8]) -> Command
+    ensures { λ r. ⌜ r ≡ withTicket (ticket (now (first .entry))) ⌝ }
+{
+    match number(first, MOST_TICKET_DIGITS, LARGEST_TICKET) {
+        Numeral::Nothing => Command::Unknown,
+        Numeral::Value(t) => Command::Fetch(t as u64),
     }
 }
 
@@ -148,6 +163,9 @@ fn after_one(word: &[u8], rest: &[u8]) -> Command
     if end < rest.len() {
         let next = end + 1;
         return after_two(word, &rest[..end], &rest[next..]);
+    }
+    if same(word, b"fetch") {
+        return with_ticket(rest);
     }
     with_one(word, rest)
 }

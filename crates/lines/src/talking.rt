@@ -1,10 +1,9 @@
 // A command is carried out, and its answer written as a line.
 use crate::Command;
 use crate::reading::parse;
+use crate::writing::put_alone;
 use crate::writing::put_line;
 use crate::writing::put_value;
-use calls::Change;
-use calls::Changed;
 use calls::Drive;
 use calls::Opened;
 use calls::Opening;
@@ -12,14 +11,16 @@ use calls::Refusal;
 use calls::Rounding;
 use calls::Served;
 use calls::Serving;
+use orders::Ordered;
+use orders::Ordering;
+use waiting::Fetching;
 ghost use mathlib.Core.Path.{_≡_};
 ghost use mathlib.Core.List.{[]};
 ghost use Prim.Native.Nat.{_+_, _≤_};
 ghost use lib.ListN.{length};
 ghost use Rattle.calls.specs.Refusals.{numberOf};
 ghost use Rattle.lines.specs.Printing.{line, unknown, blank};
-ghost use Rattle.lines.specs.Replies.{room, Told, openingLine, changeLine, servingLine, keptBy, reply, driveAfter, boardAfter, Steps};
-ghost use Rattle.lines.specs.declared.Command.the-variants as commands;
+ghost use Rattle.lines.specs.Replies.{room, Told, openingLine, orderingLine, servingLine, roundLine, outcomeLine, fetchingLine, keptBy, reply, driveAfter, boardAfter, listAfter, Steps};
 
 // The record after a command, and the place in the lent bytes after its reply.
 pub struct Stepped {
@@ -35,11 +36,10 @@ fn tell_refusal(drive: Drive, refusal: Refusal, out: &mut [u8], at: usize) -> St
     requires { ⌜ at + room ≤ length (now out) ⌝ }
     ensures { λ r. ⌜ Told drive (line (numberOf refusal) []) (now (out .entry)) at r (now (out .exit)) ⌝ }
 {
-    let none: [u16; 0] = [];
     let number = refusal.number();
     Stepped {
         drive,
-        to: put_line(out, at, number as u64, &none),
+        to: put_alone(out, at, number as u64),
     }
 }
 
@@ -51,37 +51,80 @@ fn tell_opening(old: Drive, opened: Opened, out: &mut [u8], at: usize) -> Steppe
     let new = opened.drive;
     let answer = opened.answer;
     match answer {
-        Opening::Done => {
-            let none: [u16; 0] = [];
-            Stepped {
-                drive: new,
-                to: put_line(out, at, 0, &none),
-            }
-        }
+        Opening::Done => Stepped {
+            drive: new,
+            to: put_alone(out, at, 0),
+        },
         Opening::Refused(r) => tell_refusal(old, r, out, at),
     }
 }
 
 // The line of an add or a remove.
-fn tell_change(changed: Changed, out: &mut [u8], at: usize) -> Stepped
+fn tell_ordering(ordered: Ordered, out: &mut [u8], at: usize) -> Stepped
     requires { ⌜ at + room ≤ length (now out) ⌝ }
-    ensures { λ r. ⌜ Told (changed .drive) (changeLine (changed .answer)) (now (out .entry)) at r (now (out .exit)) ⌝ }
+    ensures { λ r. ⌜ Told (ordered .drive) (orderingLine (ordered .answer)) (now (out .entry)) at r (now (out .exit)) ⌝ }
 {
-    let drive = changed.drive;
-    let answer = changed.answer;
+    let drive = ordered.drive;
+    let answer = ordered.answer;
     match answer {
-        Change::Done(idle) => Stepped {
+        Ordering::Done(idle) => Stepped {
             drive,
             to: put_value(out, at, 0, idle as u64),
         },
-        Change::Room(idle) => {
-            let number = Refusal::Room.number();
-            Stepped {
-                drive,
-                to: put_value(out, at, number as u64, idle as u64),
-            }
-        }
-        Change::Refused(r) => tell_refusal(drive, r, out, at),
+        Ordering::Room(idle) => Stepped {
+            drive,
+            to: put_value(out, at, 10, idle as u64),
+        },
+        Ordering::Waiting(ticket) => Stepped {
+            drive,
+            to: put_value(out, at, 13, ticket),
+        },
+        Ordering::Queue => Stepped {
+            drive,
+            to: put_alone(out, at, 14),
+        },
+        Ordering::Refused(r) => tell_refusal(drive, r, out, at),
+    }
+}
+
+// The line of an answer that was fetched, as the change would have had it: the idle leaves stand after 0 and after 10.
+fn tell_outcome(drive: Drive, number: u64, value: u64, out: &mut [u8], at: usize) -> Stepped
+    requires { ⌜ at + room ≤ length (now out) ⌝ }
+    ensures { λ r. ⌜ Told drive (outcomeLine number value) (now (out .entry)) at r (now (out .exit)) ⌝ }
+{
+    if number == 0 {
+        return Stepped {
+            drive,
+            to: put_value(out, at, number, value),
+        };
+    }
+    if number == 10 {
+        return Stepped {
+            drive,
+            to: put_value(out, at, number, value),
+        };
+    }
+    Stepped {
+        drive,
+        to: put_alone(out, at, number),
+    }
+}
+
+// The line of a fetch.
+fn tell_fetching(drive: Drive, answer: Fetching, out: &mut [u8], at: usize) -> Stepped
+    requires { ⌜ at + room ≤ length (now out) ⌝ }
+    ensures { λ r. ⌜ Told drive (fetchingLine answer) (now (out .entry)) at r (now (out .exit)) ⌝ }
+{
+    match answer {
+        Fetching::Answer { number, value } => tell_outcome(drive, number, value, out, at),
+        Fetching::Waits(ticket) => Stepped {
+            drive,
+            to: put_value(out, at, 13, ticket),
+        },
+        Fetching::Unknown => Stepped {
+            drive,
+            to: put_alone(out, at, 15),
+        },
     }
 }
 
@@ -119,7 +162,7 @@ fn no_names() -> [u16; 4095]
 // Writes a round and its line.
 fn tell_round(drive: Drive, board: &[u16], out: &mut [u8], at: usize) -> Stepped
     requires { ⌜ at + room ≤ length (now out) ⌝ }
-    ensures { λ r. ⌜ Told drive (reply commands.Round drive (now (board .entry))) (now (out .entry)) at r (now (out .exit)) ⌝ }
+    ensures { λ r. ⌜ Told drive (roundLine drive (now (board .entry))) (now (out .entry)) at r (now (out .exit)) ⌝ }
 {
     let mut names = no_names();
     let rounded = drive.round(board, &mut names);
@@ -151,42 +194,53 @@ pub fn answer(
     command: Command,
     drive: Drive,
     board: &mut [u16],
+    list: &mut [u64],
     out: &mut [u8],
     at: usize,
 ) -> Stepped
     requires { ⌜ at + room ≤ length (now out) ⌝ }
-    ensures { λ r. ⌜ (Told (driveAfter command drive (now (board .entry))) (reply command drive (now (board .entry))) (now (out .entry)) at r (now (out .exit))) × (now (board .exit) ≡ boardAfter command drive (now (board .entry))) ⌝ }
+    ensures { λ r. ⌜ (Told (driveAfter command drive (now (board .entry)) (now (list .entry))) (reply command drive (now (board .entry)) (now (list .entry))) (now (out .entry)) at r (now (out .exit))) × (now (board .exit) ≡ boardAfter command drive (now (board .entry)) (now (list .entry))) × (now (list .exit) ≡ listAfter command drive (now (board .entry)) (now (list .entry))) ⌝ }
 {
     match command {
         Command::Open(capacity) => {
-            let opened = Drive::open(capacity, board);
+            let opened = orders::open(capacity, board, list);
             tell_opening(drive, opened, out, at)
         }
         Command::Add(name, weight) => {
-            let changed = drive.add(board, name, weight);
-            tell_change(changed, out, at)
+            let ordered = orders::add(drive, board, list, name, weight);
+            tell_ordering(ordered, out, at)
         }
         Command::Remove(name) => {
-            let changed = drive.remove(board, name);
-            tell_change(changed, out, at)
+            let ordered = orders::remove(drive, board, list, name);
+            tell_ordering(ordered, out, at)
         }
         Command::Slot => {
-            let served = drive.slot(board);
+            let served = orders::slot(drive, board, list);
             tell_serving(served, out, at)
         }
         Command::Round => tell_round(drive, board, out, at),
+        Command::Fetch(ticket) => {
+            let fetched = waiting::fetch(list, ticket);
+            tell_fetching(drive, fetched, out, at)
+        }
         Command::Unknown => tell_unknown(drive, out, at),
     }
 }
 
 // One line in, one line out: the command that the line is, given without its line feed, is carried out, and its
 // reply written to the start of the lent bytes. Where these are fewer than a reply may need, nothing is done.
-pub fn step(line: &[u8], drive: Drive, board: &mut [u16], out: &mut [u8]) -> Stepped
-    ensures { λ r. ⌜ Steps (now (line .entry)) drive (now (board .entry)) (now (out .entry)) r (now (board .exit)) (now (out .exit)) ⌝ }
+pub fn step(
+    line: &[u8],
+    drive: Drive,
+    board: &mut [u16],
+    list: &mut [u64],
+    out: &mut [u8],
+) -> Stepped
+    ensures { λ r. ⌜ Steps (now (line .entry)) drive (now (board .entry)) (now (list .entry)) (now (out .entry)) r (now (board .exit)) (now (list .exit)) (now (out .exit)) ⌝ }
 {
     if out.len() < ROOM {
         return Stepped { drive, to: 0 };
     }
     let command = parse(line);
-    answer(command, drive, board, out, 0)
+    answer(command, drive, board, list, out, 0)
 }

@@ -54,13 +54,23 @@ pub fn put_line(out: &mut [u8], at: usize, number: u64, values: &[u16]) -> usize
     valued + 1
 }
 
-// A line with one value, which has at most twenty digits.
-pub fn put_value(out: &mut [u8], at: usize, number: u64, value: u64) -> usize
-    requires { ⌜ (number < 100) × (at + 24 ≤ length (now out)) ⌝ }
-    ensures { λ r. ⌜ (r ≡ at + length (line number (value ∷ []))) × (now (out .exit) ≡ sets (now (out .entry)) at (line number (value ∷ []))) × (r ≤ at + 24) ⌝ }
+// A line of a number alone.
+pub fn put_alone(out: &mut [u8], at: usize, number: u64) -> usize
+    requires { ⌜ at + 21 ≤ length (now out) ⌝ }
+    ensures { λ r. ⌜ (r ≡ at + length (line number [])) × (now (out .exit) ≡ sets (now (out .entry)) at (line number [])) × (r ≤ at + 21) ⌝ }
 {
-    let numbered = put_number(out, at, number);
-    let end = put_field(out, numbered, value);
+    let end = put_number(out, at, number);
     out[end] = b'\n';
     end + 1
+}
+
+// A line of a number and one value. Either has at most twenty digits.
+pub fn put_value(out: &mut [u8], at: usize, number: u64, value: u64) -> usize
+    requires { ⌜ at + 42 ≤ length (now out) ⌝ }
+    ensures { λ r. ⌜ (r ≡ at + length (line number (value ∷ []))) × (now (out .exit) ≡ sets (now (out .entry)) at (line number (value ∷ []))) × (r ≤ at + 42) ⌝ }
+{
+    let numbered = put_number(out, at, number);
+    let last = put_field(out, numbered, value);
+    out[last] = b'\n';
+    last + 1
 }

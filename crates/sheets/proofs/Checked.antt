@@ -18,7 +18,7 @@ use Rattle.calls.specs.declared.Check.{Check}
 use Rattle.calls.specs.declared.Check.the-variants.{Clear, Refused}
 use Rattle.calls.proofs.Laws.{first-next, first-clear, then-clear, Passed, passed}
 use Rattle.sheets.specs.Sheet.{blocks, capacityIn, leavesIn, laid}
-use Rattle.sheets.specs.Results.{saveMay, saveCheck, writtenCheck, blockCheck, readCheck, loadedBoard}
+use Rattle.sheets.specs.Results.{saveMay, saveCheck, writtenCheck, blockCheck, startCheck, readCheck, loadedBoard}
 
 block-clear : (b : Bool) → blockCheck b ≡ Clear → b ≡ false
 unfolding blockCheck
@@ -82,44 +82,56 @@ pub record Readable (s B : List ℕ) : Type 0 where
   pub good : goodCheck (capacityIn s) (leavesIn (capacityIn s) s) ≡ Clear
 
 module _ (s B : List ℕ) where
+  pub start-long : startCheck s B ≡ Clear → 512 ≤ length s
+  unfolding startCheck
+  start-long e = ltb-false (length s) 512 (block-clear (ltb (length s) 512) (first-clear (blockCheck (ltb (length s) 512)) (openCheck (capacityIn s) B) e))
+
+  pub start-open : startCheck s B ≡ Clear → openCheck (capacityIn s) B ≡ Clear
+  unfolding startCheck
+  start-open e = then-clear (blockCheck (ltb (length s) 512)) (openCheck (capacityIn s) B) e
+
+  -- the first checks, one after the other
+  pub start-short : length s < 512 → Refused Block ≡ startCheck s B
+  unfolding startCheck
+  start-short h = rw (lt-ltb (length s) 512 h, refused-block)
+
+  pub start-next : 512 ≤ length s → startCheck s B ≡ openCheck (capacityIn s) B
+  unfolding startCheck
+  start-next h = rw (le-ltb (length s) 512 h, clear-block)
+
   pub clear-read : readCheck s B ≡ Clear → Readable s B
   unfolding readCheck
   clear-read e =
       let C = capacityIn s in
-      let fourth = goodCheck C (leavesIn C s) in
-      let third = andThen (blockCheck (not (laid C s))) fourth in
-      let second = andThen (openCheck C B) third in
-      let e₂ = then-clear (blockCheck (ltb (length s) 512)) second e in
-      let e₃ = then-clear (openCheck C B) third e₂ in
+      let last = goodCheck C (leavesIn C s) in
+      let later = andThen (blockCheck (not (laid C s))) last in
+      let start = first-clear (startCheck s B) later e in
+      let rest = then-clear (startCheck s B) later e in
       record {
-        long = ltb-false (length s) 512 (block-clear (ltb (length s) 512) (first-clear (blockCheck (ltb (length s) 512)) second e));
-        fitting = first-clear (openCheck C B) third e₂;
-        keeps = not-false (laid C s) (block-clear (not (laid C s)) (first-clear (blockCheck (not (laid C s))) fourth e₃));
-        good = then-clear (blockCheck (not (laid C s))) fourth e₃;
+        long = start-long start;
+        fitting = start-open start;
+        keeps = not-false (laid C s) (block-clear (not (laid C s)) (first-clear (blockCheck (not (laid C s))) last rest));
+        good = then-clear (blockCheck (not (laid C s))) last rest;
       }
 
   pub read-clear : Readable s B → readCheck s B ≡ Clear
   unfolding readCheck
-  read-clear r = rw (le-ltb (length s) 512 (r .long), clear-block, r .fitting, r .keeps, clear-block) (r .good)
+  read-clear r = rw (start-next (r .long), r .fitting, r .keeps, clear-block) (r .good)
 
   -- read, one check after the other
-  pub read-short : length s < 512 → Refused Block ≡ readCheck s B
-  unfolding readCheck
-  read-short h = rw (lt-ltb (length s) 512 h, refused-block)
-
-  module _ (c : ℕ) (r : Check) (long : 512 ≤ length s) (is : c ≡ capacityIn s) (openIs : r ≡ openCheck c B) where
+  module _ (r : Check) (start : r ≡ startCheck s B) where
     pub read-unfit : (x : Refusal) → r ≡ Refused x → Refused x ≡ readCheck s B
     unfolding readCheck
-    read-unfit x e = rw (le-ltb (length s) 512 long, clear-block, ← is, ← openIs, e)
+    read-unfit x e = rw (← start, e)
 
-    module _ (opened : r ≡ Clear) (l : Bool) (layout : l ≡ laid c s) where
+    module _ (clear : r ≡ Clear) (c : ℕ) (is : c ≡ capacityIn s) (l : Bool) (layout : l ≡ laid c s) where
       pub read-broken : l ≡ false → Refused Block ≡ readCheck s B
       unfolding readCheck
-      read-broken e = rw (le-ltb (length s) 512 long, clear-block, ← is, ← openIs, opened, ← layout, e, refused-block)
+      read-broken e = rw (← start, clear, ← is, ← layout, e, refused-block)
 
       pub read-tested : (g : Check) → l ≡ true → g ≡ goodCheck c (leavesIn c s) → g ≡ readCheck s B
       unfolding readCheck
-      read-tested g e h = rw (le-ltb (length s) 512 long, clear-block, ← is, ← openIs, opened, ← layout, e, clear-block) h
+      read-tested g e h = rw (← start, clear, ← is, ← layout, e, clear-block) h
 
   -- and what is then in the lent board
   pub read-kept : (x : Refusal) → Refused x ≡ readCheck s B → (Refused x ≡ readCheck s B) × (B ≡ loadedBoard s B)

@@ -28,7 +28,7 @@ use Rattle.sheets.specs.declared.Loaded.{Loaded}
 use Rattle.sheets.specs.declared.Loading.the-variants as loading
 use Rattle.sheets.specs.Blocks.{Bytes, Words, listed, bytesOf, block, stack}
 use Rattle.sheets.specs.Sheet.{blocks, leafOf, page, sheet, capacityIn, place, leafIn, leavesIn, laid, Layout}
-use Rattle.sheets.specs.Results.{saveMay, saveCheck, savingBy, saved, savedAnswer, savedOutput, savingAnswer, readMay, askedSheet, blockCheck, readCheck, loadingBy, loaded, loadedAnswer, loadedBoard, loadingAnswer}
+use Rattle.sheets.specs.Results.{saveMay, saveCheck, savingBy, saved, savedAnswer, savedOutput, savingAnswer, readMay, askedSheet, blockCheck, startCheck, readCheck, loadingBy, loaded, loadedAnswer, loadedBoard, loadingAnswer}
 use Rattle.sheets.specs.Promises.{Saves, Loads}
 use Rattle.sheets.proofs.Lists.{listed-at}
 use Rattle.sheets.proofs.Numbers.{number-small}
@@ -130,6 +130,24 @@ module _ (d : Drive) (B O L : List ℕ) (n : ℕ) (words : Words B) (done : save
   demand-2-saved-reads-back =
       rw (written, read-clear (sheet (d .capacity) B) L readable, capacity) (refl, rw leaves)
 
+-- What read accepts is a board that passes the checks: long enough, and good. L is the board lent to read.
+module _ (s L : List ℕ) (accepted : readCheck s L ≡ Clear) where
+  lent : Sized (capacityIn s) L
+  lent = open-clear (capacityIn s) L (clear-read s L accepted .fitting)
+
+  pub read-sized : Sized (capacityIn s) (leavesIn (capacityIn s) s ++ drop (capacityIn s) L)
+  read-sized = record {
+    some = lent .some;
+    few = lent .few;
+    long = rw (length-append (leavesIn (capacityIn s) s) (drop (capacityIn s) L), leaves-length (capacityIn s) s) (omega arith);
+  }
+
+  pub read-good : good (capacityIn s) (leavesIn (capacityIn s) s ++ drop (capacityIn s) L) ≡ true
+  read-good =
+      good-same (capacityIn s) (leavesIn (capacityIn s) s) (leavesIn (capacityIn s) s ++ drop (capacityIn s) L)
+      (λ i h. sym (List·getD-append (leavesIn (capacityIn s) s) (drop (capacityIn s) L) 0 i (omega (arith, leaves-length (capacityIn s) s))))
+      (check-good (capacityIn s) (leavesIn (capacityIn s) s) (clear-read s L accepted .good))
+
 -- Demand 2: whatever bytes read accepts are the very bytes that save writes for the board that it sets. L is the board lent to read, O an output with room.
 module _ (s L O : List ℕ) (bytes : Bytes s) (done : loaded s L .answer ≡ loading.Done) (room : length s ≤ length O) where
   accepted : readCheck s L ≡ Clear
@@ -145,23 +163,6 @@ module _ (s L O : List ℕ) (bytes : Bytes s) (done : loaded s L .answer ≡ loa
   board : List ℕ
   board = leavesIn (capacityIn s) s ++ drop (capacityIn s) L
 
-  fits : Sized (capacityIn s) board
-  unfolding board
-  fits =
-      let lent = open-clear (capacityIn s) L (accepts .fitting) in
-      record {
-        some = lent .some;
-        few = lent .few;
-        long = rw (length-append (leavesIn (capacityIn s) s) (drop (capacityIn s) L), leaves-length (capacityIn s) s) (omega arith);
-      }
-
-  good-board : good (capacityIn s) board ≡ true
-  unfolding board
-  good-board =
-      good-same (capacityIn s) (leavesIn (capacityIn s) s) board
-      (λ i h. sym (List·getD-append (leavesIn (capacityIn s) s) (drop (capacityIn s) L) 0 i (omega (arith, leaves-length (capacityIn s) s))))
-      (check-good (capacityIn s) (leavesIn (capacityIn s) s) (accepts .good))
-
   -- its sheet is what was read
   same : sheet (capacityIn s) board ≡ s
   unfolding board
@@ -172,7 +173,8 @@ module _ (s L O : List ℕ) (bytes : Bytes s) (done : loaded s L .answer ≡ loa
       ∙ sym (layout-sheet (capacityIn s) s bytes keeps)
 
   saves : saveCheck (driveAt (capacityIn s) 1) board (length O) ≡ Clear
-  saves = save-first (capacityIn s) board (length O) fits good-board (omega (arith, keeps .long))
+  unfolding board
+  saves = save-first (capacityIn s) board (length O) (read-sized s L accepted) (read-good s L accepted) (omega (arith, keeps .long))
 
   pub demand-2-only-such-sheets :
       (saved (loaded s L .drive) (loadedBoard s L) O ≡ record { drive = loaded s L .drive; answer = saving.Done (length s) })
@@ -214,7 +216,7 @@ module _ (s B : List ℕ) where
   read-refused h f = rw (h .0, h .2, refusal (readCheck s B) (refuses (h .1) f) .1) (refl, refl)
 
   pub read-answers : among (loadedAnswer s B .number) readMay ≡ true
-  unfolding readCheck blockCheck openCheck goodCheck covers
+  unfolding readCheck startCheck blockCheck openCheck goodCheck covers
   read-answers =
       let C = capacityIn s in
       let ns = numbers readMay in
@@ -222,9 +224,9 @@ module _ (s B : List ℕ) where
       let laying = blockCheck (not (laid C s)) in
       let lent = openCheck C B in
       within-among readMay (readCheck s B)
-      (then-within ns (blockCheck (ltb (length s) 512)) (andThen lent (andThen laying good)) (part (Block ∷ []) (askedSheet (ltb (length s) 512)) refl)
-      (then-within ns lent (andThen laying good) (part openMay (askedOpen C B) refl)
-      (then-within ns laying good (part (Block ∷ []) (askedSheet (not (laid C s))) refl) (part (Damaged ∷ []) (asked (driveAt C 1) (leavesIn C s)) refl))))
+      (then-within ns (startCheck s B) (andThen laying good)
+      (then-within ns (blockCheck (ltb (length s) 512)) lent (part (Block ∷ []) (askedSheet (ltb (length s) 512)) refl) (part openMay (askedOpen C B) refl))
+      (then-within ns laying good (part (Block ∷ []) (askedSheet (not (laid C s))) refl) (part (Damaged ∷ []) (asked (driveAt C 1) (leavesIn C s)) refl)))
 
   pub read-may : {r : Loaded} {E : List ℕ} → Loads s B r E → among (loadingAnswer (r .answer) .number) readMay ≡ true
   read-may h = may readMay (h .1) read-answers

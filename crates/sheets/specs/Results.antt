@@ -77,13 +77,15 @@ blockCheck broken = firstOf (Block ∷ []) (askedSheet broken)
 abbrev pub readMay : List Refusal
 readMay = Capacity ∷ Short ∷ Damaged ∷ Block ∷ []
 
--- read, in its own order: under 512 bytes, 12; C of block 0 out of range, 1, or the lent board too short, 2, as open has them; anything wrong
--- with length or layout, 12; the sheet's board not good, 5.
+-- Its first checks: under 512 bytes, 12; C of block 0 out of range, 1, or the lent board too short, 2, as open has them.
+unfoldable pub startCheck : List ℕ → List ℕ → Check
+startCheck s B = andThen (blockCheck (ltb (length s) 512)) (openCheck (capacityIn s) B)
+
+-- read, in its own order: the first checks; anything wrong with length or layout, 12; the sheet's board not good, 5.
 unfoldable pub readCheck : List ℕ → List ℕ → Check
 readCheck s B =
     let C = capacityIn s in
-    andThen (blockCheck (ltb (length s) 512))
-    (andThen (openCheck C B) (andThen (blockCheck (not (laid C s))) (goodCheck C (leavesIn C s))))
+    andThen (startCheck s B) (andThen (blockCheck (not (laid C s))) (goodCheck C (leavesIn C s)))
 
 -- the C leaves and p = 1
 abbrev pub loaded : List ℕ → List ℕ → Loaded

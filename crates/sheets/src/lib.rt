@@ -6,7 +6,7 @@ ghost use lib.ListN.{length, drop, replicate};
 ghost use Rattle.calls.specs.Refusals.{goodCheck};
 ghost use Rattle.calls.specs.Results.{ifClear};
 ghost use Rattle.sheets.specs.Sheet.{blocks, leavesIn};
-ghost use Rattle.sheets.specs.Results.{readCheck, loadedBoard, saveCheck, writtenCheck};
+ghost use Rattle.sheets.specs.Results.{startCheck, readCheck, loadedBoard, saveCheck, writtenCheck};
 ghost use Rattle.sheets.specs.Promises.{Saves, Loads};
 use calls::Check;
 use calls::Drive;
@@ -61,17 +61,24 @@ fn load_leaves(sheet: &[u8], c: usize, board: &mut [u16]) -> Check
     }
 }
 
-// The refusals of read, in its order. Where there is none, the board gets the leaves of the sheet.
-fn load(sheet: &[u8], board: &mut [u16]) -> Check
-    ensures { λ r. ⌜ (r ≡ readCheck (now (sheet .entry)) (now (board .entry))) × (now (board .exit) ≡ loadedBoard (now (sheet .entry)) (now (board .entry))) ⌝ }
+// The first refusals of read: under 512 bytes, 12; of C of block 0 and the lent board, 1 and 2.
+pub fn check_start(sheet: &[u8], board: &[u16]) -> Check
+    ensures { λ r. ⌜ r ≡ startCheck (now (sheet .entry)) (now (board .entry)) ⌝ }
 {
     if sheet.len() < 512 {
         return Check::Refused(Refusal::Block);
     }
-    let c = blocks::number_at(sheet, 1);
-    match calls::checks::check_open(c, board) {
+    calls::checks::check_open(blocks::number_at(sheet, 1), board)
+}
+
+// The refusals of read, in its order. Where there is none, the board gets the leaves of the sheet.
+fn load(sheet: &[u8], board: &mut [u16]) -> Check
+    ensures { λ r. ⌜ (r ≡ readCheck (now (sheet .entry)) (now (board .entry))) × (now (board .exit) ≡ loadedBoard (now (sheet .entry)) (now (board .entry))) ⌝ }
+{
+    match check_start(sheet, board) {
         Check::Refused(r) => Check::Refused(r),
         Check::Clear => {
+            let c = blocks::number_at(sheet, 1);
             if leaves::is_laid(sheet, c) {
                 load_leaves(sheet, c, board)
             } else {

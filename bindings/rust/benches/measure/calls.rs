@@ -1,41 +1,13 @@
 //! What each call costs, version beside version, on the same boards.
 use crate::clock::{median, now};
 use paper::random::Random;
-use paper::trial::Calls;
-use paper::{at, hand, letter, Answer, Record};
+use paper::trial::{Calls, Hand, Letter};
+use paper::waiting::{self, LENGTH, PLACES};
+use paper::{at, hand, letter};
 use std::hint::black_box;
 
-pub const CALLS: [&str; 7] = ["slot", "add", "remove", "round", "report", "save", "read"];
-
-/// Document 01 by the letter, as a version.
-pub struct Letter;
-
-impl Calls for Letter {
-    fn open(&self, capacity: u16, board: &mut [u16]) -> Answer {
-        letter::open(capacity, board)
-    }
-    fn add(&self, record: Record, board: &mut [u16], name: u16, weight: u16) -> Answer {
-        letter::add(record, board, name, weight)
-    }
-    fn remove(&self, record: Record, board: &mut [u16], name: u16) -> Answer {
-        letter::remove(record, board, name)
-    }
-    fn slot(&self, record: Record, board: &[u16]) -> Answer {
-        letter::slot(record, board)
-    }
-    fn round(&self, record: Record, board: &[u16], output: &mut [u16]) -> Answer {
-        letter::round(record, board, output)
-    }
-    fn report(&self, record: Record, board: &[u16], name: u16) -> Answer {
-        letter::report(record, board, name)
-    }
-    fn save(&self, record: Record, board: &[u16], output: &mut [u8]) -> Answer {
-        letter::save(record, board, output)
-    }
-    fn read(&self, sheet: &[u8], board: &mut [u16]) -> Answer {
-        letter::read(sheet, board)
-    }
-}
+/// "start" is a slot at the start of a round with nothing waiting, "run" one that carries out as many orders as can wait, half of them adds.
+pub const CALLS: [&str; 9] = ["slot", "start", "run", "add", "remove", "round", "report", "save", "read"];
 
 /// Weights of n streams that sum to `total`: a few large, many small, each at least 1.
 pub fn weights(n: usize, total: usize, random: &mut Random) -> Vec<u32> {
@@ -64,6 +36,19 @@ fn board(c: usize, n: usize) -> (Vec<u16>, Vec<u16>) {
     (board, (1..=n as u16).collect())
 }
 
+/// A list with as many orders as can wait: by turns a stream of the board is removed and one of its weight added under a new name.
+fn orders(c: usize, board: &mut [u16], names: &[u16]) -> [u64; LENGTH] {
+    let mut list = [0; LENGTH];
+    let away = at(c as u16, 2);
+    for i in 0..PLACES / 2 {
+        let name = names[i * 7919 % names.len()];
+        let weight = board.iter().filter(|&&x| x == name).count().max(1) as u16;
+        waiting::remove::<Hand>(away, board, &mut list, name);
+        waiting::add::<Hand>(away, board, &mut list, 50000 + i as u16, weight);
+    }
+    list
+}
+
 /// Copies of a board, made before the clock starts, so that each timed call has one of its own.
 const COPIES: usize = 32;
 
@@ -74,6 +59,7 @@ fn once(calls: &dyn Calls, call: &str, board: &[u16], names: &[u16], few: bool) 
     let copies = if few { 4 } else { COPIES };
     let name = |i: usize| names[i * 7919 % names.len()];
     let mut boards: Vec<Vec<u16>> = (0..copies).map(|_| board.to_vec()).collect();
+    let mut list = [0; LENGTH];
     let mut output = vec![0u16; c];
     let mut bytes = letter::sheet(board);
     let idle = board.iter().filter(|&&x| x == 0).count();
@@ -89,18 +75,31 @@ fn once(calls: &dyn Calls, call: &str, board: &[u16], names: &[u16], few: bool) 
             let mut at = record;
             timed(many, &mut || {
                 for _ in 0..many {
-                    at = black_box(calls.slot(at, black_box(board))).record;
+                    at = black_box(calls.slot(at, black_box(&mut boards[0]), &mut list)).record;
+                }
+            })
+        }
+        "start" => timed(4000, &mut || {
+            for _ in 0..4000 {
+                black_box(calls.slot(record, black_box(&mut boards[0]), &mut list));
+            }
+        }),
+        "run" => {
+            let mut lists: Vec<[u64; LENGTH]> = boards.iter_mut().map(|b| orders(c, b, names)).collect();
+            timed(copies, &mut || {
+                for (b, l) in boards.iter_mut().zip(&mut lists) {
+                    black_box(calls.slot(record, b, l));
                 }
             })
         }
         "add" => timed(copies, &mut || {
             for b in &mut boards {
-                black_box(calls.add(record, b, 60000, weight));
+                black_box(calls.add(record, b, &mut list, 60000, weight));
             }
         }),
         "remove" => timed(copies, &mut || {
             for (i, b) in boards.iter_mut().enumerate() {
-                black_box(calls.remove(record, b, name(i)));
+                black_box(calls.remove(record, b, &mut list, name(i)));
             }
         }),
         "round" => timed(copies, &mut || {
@@ -120,7 +119,7 @@ fn once(calls: &dyn Calls, call: &str, board: &[u16], names: &[u16], few: bool) 
         }),
         _ => timed(copies, &mut || {
             for b in &mut boards {
-                black_box(calls.read(black_box(&bytes), b));
+                black_box(calls.read(black_box(&bytes), b, &mut list));
             }
         }),
     }
@@ -149,7 +148,7 @@ pub fn table(ours: Option<&dyn Calls>) -> Vec<Line> {
                 let (mut library, mut hand) = (Vec::new(), Vec::new());
                 for repeat in 0..26 {
                     let a = ours.map(|calls| one(calls, false));
-                    let b = one(&paper::trial::Hand, false);
+                    let b = one(&Hand, false);
                     // The first timing of each only warms.
                     if repeat > 0 {
                         library.extend(a);

@@ -26,12 +26,13 @@ mod boundary;
 struct Linked {
     drive: mandrozsi::Drive,
     board: Vec<u16>,
+    list: [u64; mandrozsi::LIST],
 }
 
 #[cfg(linked)]
 impl Scheduler for Linked {
     fn next(&mut self) -> usize {
-        usize::from(self.drive.slot(&self.board).expect("an opened board").name) - 1
+        usize::from(self.drive.slot(&mut self.board, &mut self.list).expect("an opened board").name) - 1
     }
 }
 
@@ -91,6 +92,7 @@ fn all(weights: &[u32]) -> Vec<(&'static str, Box<dyn Scheduler>)> {
             Box::new(Linked {
                 drive: boundary::drive(at(capacity, 1)),
                 board: board.clone(),
+                list: [0; mandrozsi::LIST],
             }),
         ),
         #[cfg(linked)]

@@ -1,9 +1,11 @@
-//! Document 01 in plain Rust, written from the paper and from nothing else, to compare the proved library with.
-//! [`letter`] follows the paper's words and cares for nothing else; [`hand`] is what one would write for speed.
+//! Documents 01 and 02 in plain Rust, written from the papers and from nothing else, to compare the proved library with.
+//! [`letter`] follows the papers' words and cares for nothing else; [`hand`] is what one would write for speed. [`waiting`] has the waiting list over
+//! either.
 pub mod hand;
 pub mod letter;
 pub mod random;
 pub mod trial;
+pub mod waiting;
 
 /// The drive record: C, p, and the round number.
 #[derive(Clone, Copy, Debug, PartialEq, Eq)]
@@ -22,7 +24,7 @@ pub fn at(capacity: u16, position: u16) -> Record {
     }
 }
 
-/// What a call answers: the record, the number (0 for done), and the values, zeros where it has none. Of the refusals ROOM alone has one.
+/// What a call answers: the record, the number (0 for done), and the values, zeros where it has none. Of the refusals ROOM and WAITING alone have one.
 #[derive(Clone, Copy, Debug, PartialEq, Eq)]
 pub struct Answer {
     pub record: Record,

@@ -1,66 +1,108 @@
 //! Comparison of any version of the calls with [`letter`]: the answer, the record and every entry of every lent slice, on every small board and
 //! on many thousand random inputs.
 use crate::random::Random;
+use crate::waiting::{self, AtOnce, LENGTH};
 use crate::{at, hand, letter, Answer, Record};
 
-/// The calls of document 01.
+/// The calls, with the waiting list. Fetch takes no record, and says a number and a value.
 pub trait Calls {
-    fn open(&self, capacity: u16, board: &mut [u16]) -> Answer;
-    fn add(&self, record: Record, board: &mut [u16], name: u16, weight: u16) -> Answer;
-    fn remove(&self, record: Record, board: &mut [u16], name: u16) -> Answer;
-    fn slot(&self, record: Record, board: &[u16]) -> Answer;
+    fn open(&self, capacity: u16, board: &mut [u16], list: &mut [u64]) -> Answer;
+    fn add(&self, record: Record, board: &mut [u16], list: &mut [u64], name: u16, weight: u16) -> Answer;
+    fn remove(&self, record: Record, board: &mut [u16], list: &mut [u64], name: u16) -> Answer;
+    fn slot(&self, record: Record, board: &mut [u16], list: &mut [u64]) -> Answer;
     fn round(&self, record: Record, board: &[u16], output: &mut [u16]) -> Answer;
     fn report(&self, record: Record, board: &[u16], name: u16) -> Answer;
     fn save(&self, record: Record, board: &[u16], output: &mut [u8]) -> Answer;
-    fn read(&self, sheet: &[u8], board: &mut [u16]) -> Answer;
+    fn read(&self, sheet: &[u8], board: &mut [u16], list: &mut [u64]) -> Answer;
+    fn fetch(&self, list: &mut [u64], ticket: u64) -> (u64, u64);
 }
 
-/// The version written for speed.
-pub struct Hand;
+/// A version by a module of this crate, with the list over its calls made at once.
+macro_rules! version {
+    ($(#[$about:meta])* $version:ident, $module:ident) => {
+        $(#[$about])*
+        pub struct $version;
 
-impl Calls for Hand {
-    fn open(&self, capacity: u16, board: &mut [u16]) -> Answer {
-        hand::open(capacity, board)
-    }
-    fn add(&self, record: Record, board: &mut [u16], name: u16, weight: u16) -> Answer {
-        hand::add(record, board, name, weight)
-    }
-    fn remove(&self, record: Record, board: &mut [u16], name: u16) -> Answer {
-        hand::remove(record, board, name)
-    }
-    fn slot(&self, record: Record, board: &[u16]) -> Answer {
-        hand::slot(record, board)
-    }
-    fn round(&self, record: Record, board: &[u16], output: &mut [u16]) -> Answer {
-        hand::round(record, board, output)
-    }
-    fn report(&self, record: Record, board: &[u16], name: u16) -> Answer {
-        hand::report(record, board, name)
-    }
-    fn save(&self, record: Record, board: &[u16], output: &mut [u8]) -> Answer {
-        hand::save(record, board, output)
-    }
-    fn read(&self, sheet: &[u8], board: &mut [u16]) -> Answer {
-        hand::read(sheet, board)
-    }
+        impl AtOnce for $version {
+            fn open(capacity: u16, board: &mut [u16]) -> Answer {
+                $module::open(capacity, board)
+            }
+            fn add(record: Record, board: &mut [u16], name: u16, weight: u16) -> Answer {
+                $module::add(record, board, name, weight)
+            }
+            fn remove(record: Record, board: &mut [u16], name: u16) -> Answer {
+                $module::remove(record, board, name)
+            }
+            fn slot(record: Record, board: &[u16]) -> Answer {
+                $module::slot(record, board)
+            }
+            fn read(sheet: &[u8], board: &mut [u16]) -> Answer {
+                $module::read(sheet, board)
+            }
+            fn good(leaves: &[u16]) -> bool {
+                $module::good(leaves)
+            }
+        }
+
+        impl Calls for $version {
+            fn open(&self, capacity: u16, board: &mut [u16], list: &mut [u64]) -> Answer {
+                waiting::open::<Self>(capacity, board, list)
+            }
+            fn add(&self, record: Record, board: &mut [u16], list: &mut [u64], name: u16, weight: u16) -> Answer {
+                waiting::add::<Self>(record, board, list, name, weight)
+            }
+            fn remove(&self, record: Record, board: &mut [u16], list: &mut [u64], name: u16) -> Answer {
+                waiting::remove::<Self>(record, board, list, name)
+            }
+            fn slot(&self, record: Record, board: &mut [u16], list: &mut [u64]) -> Answer {
+                waiting::slot::<Self>(record, board, list)
+            }
+            fn round(&self, record: Record, board: &[u16], output: &mut [u16]) -> Answer {
+                $module::round(record, board, output)
+            }
+            fn report(&self, record: Record, board: &[u16], name: u16) -> Answer {
+                $module::report(record, board, name)
+            }
+            fn save(&self, record: Record, board: &[u16], output: &mut [u8]) -> Answer {
+                $module::save(record, board, output)
+            }
+            fn read(&self, sheet: &[u8], board: &mut [u16], list: &mut [u64]) -> Answer {
+                waiting::read::<Self>(sheet, board, list)
+            }
+            fn fetch(&self, list: &mut [u64], ticket: u64) -> (u64, u64) {
+                waiting::fetch(list, ticket)
+            }
+        }
+    };
+}
+
+version! {
+    /// The version by the papers' words.
+    Letter, letter
+}
+
+version! {
+    /// The version written for speed.
+    Hand, hand
 }
 
 /// How often each call gave each number, done as 0.
 #[derive(Default)]
-pub struct Tally([[usize; 13]; 8]);
+pub struct Tally([[usize; 16]; 9]);
 
-const NAMES: [&str; 8] = ["open", "add", "remove", "slot", "round", "report", "save", "read"];
+const NAMES: [&str; 9] = ["open", "add", "remove", "slot", "round", "report", "save", "read", "fetch"];
 
 /// What each call may answer.
-const MAY: [&[usize]; 8] = [
+const MAY: [&[usize]; 9] = [
     &[0, 1, 2],
-    &[0, 1, 2, 3, 4, 5, 6, 7, 8, 10],
-    &[0, 1, 2, 3, 4, 5, 6, 9],
+    &[0, 1, 2, 3, 5, 6, 7, 8, 10, 13, 14],
+    &[0, 1, 2, 3, 5, 6, 9, 13, 14],
     &[0, 1, 2, 3],
     &[0, 1, 2, 3, 11],
     &[0, 1, 2, 3, 5, 6, 9],
     &[0, 1, 2, 3, 4, 5, 11],
     &[0, 1, 2, 5, 12],
+    &[0, 5, 8, 9, 10, 13, 15],
 ];
 
 impl Tally {
@@ -92,83 +134,140 @@ impl<'a, C: Calls> Trial<'a, C> {
         }
     }
 
-    /// Runs both on their own copies of a lent slice and compares; the slice is left as the call left it.
-    fn same<T: Clone + PartialEq + std::fmt::Debug>(
+    /// Runs both on their own copies of what is lent and compares; it is left as the call left it.
+    fn same<T: Clone + PartialEq + std::fmt::Debug, A: PartialEq + std::fmt::Debug>(
         &mut self,
         call: usize,
         what: &dyn std::fmt::Debug,
         lent: &mut [T],
-        ours: impl FnOnce(&C, &mut [T]) -> Answer,
-        paper: impl FnOnce(&mut [T]) -> Answer,
-    ) -> Answer {
-        let mut other = lent.to_vec();
-        let before = other.clone();
-        let expected = paper(&mut other);
-        let got = ours(self.calls, lent);
-        assert_eq!(got, expected, "{} {what:?} of {before:?}", NAMES[call]);
+        list: &mut [u64],
+        ours: impl FnOnce(&C, &mut [T], &mut [u64]) -> A,
+        paper: impl FnOnce(&mut [T], &mut [u64]) -> A,
+    ) -> A {
+        let (mut other, mut other_list) = (lent.to_vec(), list.to_vec());
+        let before = (other.clone(), other_list.clone());
+        let expected = paper(&mut other, &mut other_list);
+        let got = ours(self.calls, lent, list);
+        let name = NAMES[call];
+        assert_eq!(got, expected, "{name} {what:?} of {before:?}");
         if let Some(i) = (0..other.len()).find(|&i| other[i] != lent[i]) {
+            panic!("{name} {what:?} of {before:?}: entry {i} is {:?}, the paper has {:?}", lent[i], other[i]);
+        }
+        if let Some(i) = (0..other_list.len()).find(|&i| other_list[i] != list[i]) {
             panic!(
-                "{} {what:?} of {before:?}: entry {i} is {:?}, the paper has {:?}",
-                NAMES[call], lent[i], other[i]
+                "{name} {what:?} of {before:?}: number {i} of the list is {}, the paper has {}",
+                list[i], other_list[i]
             );
         }
-        self.tally.0[call][usize::from(got.number)] += 1;
         got
     }
 
-    pub fn open(&mut self, c: u16, board: &mut [u16]) -> Answer {
-        self.same(0, &c, board, |calls, b| calls.open(c, b), |b| letter::open(c, b))
+    fn tallied(&mut self, call: usize, answer: Answer) -> Answer {
+        self.tally.0[call][usize::from(answer.number)] += 1;
+        answer
     }
 
-    pub fn add(&mut self, r: Record, board: &mut [u16], name: u16, weight: u16) -> Answer {
-        self.same(
+    pub fn open(&mut self, c: u16, board: &mut [u16], list: &mut [u64]) -> Answer {
+        let answer = self.same(0, &c, board, list, |calls, b, l| calls.open(c, b, l), |b, l| Letter.open(c, b, l));
+        self.tallied(0, answer)
+    }
+
+    pub fn add(&mut self, r: Record, board: &mut [u16], list: &mut [u64], name: u16, weight: u16) -> Answer {
+        let answer = self.same(
             1,
             &(r, name, weight),
             board,
-            |calls, b| calls.add(r, b, name, weight),
-            |b| letter::add(r, b, name, weight),
-        )
+            list,
+            |calls, b, l| calls.add(r, b, l, name, weight),
+            |b, l| Letter.add(r, b, l, name, weight),
+        );
+        self.tallied(1, answer)
     }
 
-    pub fn remove(&mut self, r: Record, board: &mut [u16], name: u16) -> Answer {
-        self.same(2, &(r, name), board, |calls, b| calls.remove(r, b, name), |b| letter::remove(r, b, name))
+    pub fn remove(&mut self, r: Record, board: &mut [u16], list: &mut [u64], name: u16) -> Answer {
+        let answer = self.same(
+            2,
+            &(r, name),
+            board,
+            list,
+            |calls, b, l| calls.remove(r, b, l, name),
+            |b, l| Letter.remove(r, b, l, name),
+        );
+        self.tallied(2, answer)
     }
 
-    pub fn slot(&mut self, r: Record, board: &[u16]) -> Answer {
-        self.same::<u16>(3, &(r, board), &mut [], |calls, _| calls.slot(r, board), |_| letter::slot(r, board))
+    pub fn slot(&mut self, r: Record, board: &mut [u16], list: &mut [u64]) -> Answer {
+        let answer = self.same(3, &r, board, list, |calls, b, l| calls.slot(r, b, l), |b, l| Letter.slot(r, b, l));
+        self.tallied(3, answer)
     }
 
     pub fn round(&mut self, r: Record, board: &[u16], output: &mut [u16]) -> Answer {
-        self.same(
+        let answer = self.same(
             4,
             &(r, board),
             output,
-            |calls, o| calls.round(r, board, o),
-            |o| letter::round(r, board, o),
-        )
+            &mut [],
+            |calls, o, _| calls.round(r, board, o),
+            |o, _| Letter.round(r, board, o),
+        );
+        self.tallied(4, answer)
     }
 
     pub fn report(&mut self, r: Record, board: &[u16], name: u16) -> Answer {
-        self.same::<u16>(
+        let answer = self.same::<u16, _>(
             5,
             &(r, board, name),
             &mut [],
-            |calls, _| calls.report(r, board, name),
-            |_| letter::report(r, board, name),
-        )
+            &mut [],
+            |calls, _, _| calls.report(r, board, name),
+            |_, _| Letter.report(r, board, name),
+        );
+        self.tallied(5, answer)
     }
 
     pub fn save(&mut self, r: Record, board: &[u16], output: &mut [u8]) -> Answer {
-        self.same(6, &(r, board), output, |calls, o| calls.save(r, board, o), |o| letter::save(r, board, o))
+        let answer = self.same(
+            6,
+            &(r, board),
+            output,
+            &mut [],
+            |calls, o, _| calls.save(r, board, o),
+            |o, _| Letter.save(r, board, o),
+        );
+        self.tallied(6, answer)
     }
 
-    pub fn read(&mut self, sheet: &[u8], board: &mut [u16]) -> Answer {
-        self.same(7, &sheet, board, |calls, b| calls.read(sheet, b), |b| letter::read(sheet, b))
+    pub fn read(&mut self, sheet: &[u8], board: &mut [u16], list: &mut [u64]) -> Answer {
+        let answer = self.same(
+            7,
+            &sheet,
+            board,
+            list,
+            |calls, b, l| calls.read(sheet, b, l),
+            |b, l| Letter.read(sheet, b, l),
+        );
+        self.tallied(7, answer)
+    }
+
+    /// An answer of a list that calls left is counted; one of a list that no call left may be any number.
+    pub fn fetch(&mut self, list: &mut [u64], ticket: u64, odd: bool) -> (u64, u64) {
+        let said = self.same::<u16, _>(
+            8,
+            &ticket,
+            &mut [],
+            list,
+            |calls, _, l| calls.fetch(l, ticket),
+            |_, l| Letter.fetch(l, ticket),
+        );
+        if !odd {
+            self.tally.0[8][said.0 as usize] += 1;
+        }
+        said
     }
 
     /// Every capacity's round, and every position of the small ones, valid or not.
     pub fn orders(&mut self) {
-        let board: Vec<u16> = (0..4095).collect();
+        let mut board: Vec<u16> = (0..4095).collect();
         let mut output = [0; 4097];
         for c in 1..4096 {
             output.fill(7);
@@ -176,19 +275,19 @@ impl<'a, C: Calls> Trial<'a, C> {
         }
         for c in 0..70 {
             for p in 0..130 {
-                self.slot(at(c, p), &board);
+                self.slot(at(c, p), &mut board, &mut EMPTY.clone());
             }
         }
     }
 
     /// Rounds slot by slot, from numbers whose next ones have more digits, and from the largest, which 0 follows; and at every position of a round.
     pub fn rounds(&mut self) {
-        let board: Vec<u16> = (0..70).collect();
+        let mut board: Vec<u16> = (0..70).collect();
         for c in 1..70 {
             for round in NUMBERS {
                 let mut record = Record { round, ..at(c, 1) };
                 for _ in 0..2 * c + 1 {
-                    record = self.slot(record, &board).record;
+                    record = self.slot(record, &mut board, &mut EMPTY.clone()).record;
                 }
                 assert_eq!(record.round, round.wrapping_add(2 + u64::from(c == 1)));
             }
@@ -201,11 +300,11 @@ impl<'a, C: Calls> Trial<'a, C> {
             for code in 0..3usize.pow(c.into()) {
                 let board: Vec<u16> = (0..c).map(|i| (code / 3usize.pow(i.into()) % 3) as u16).collect();
                 for name in 0..3 {
-                    self.remove(at(c, 1), &mut board.clone(), name);
+                    self.remove(at(c, 1), &mut board.clone(), &mut EMPTY.clone(), name);
                     self.report(at(c, 1), &board, name);
                 }
                 for weight in 0..=c {
-                    self.add(at(c, 1), &mut board.clone(), 3, weight);
+                    self.add(at(c, 1), &mut board.clone(), &mut EMPTY.clone(), 3, weight);
                 }
             }
         }
@@ -223,20 +322,21 @@ impl<'a, C: Calls> Trial<'a, C> {
                     board[start..start + size].fill(random.pick(&[0, 7000]));
                 }
                 let record = at(c as u16, 1);
-                self.add(record, &mut board.clone(), 9000, size as u16);
-                self.remove(record, &mut board.clone(), 7000);
+                self.add(record, &mut board.clone(), &mut EMPTY.clone(), 9000, size as u16);
+                self.remove(record, &mut board.clone(), &mut EMPTY.clone(), 7000);
                 self.report(record, &board, 7000);
                 self.save(record, &board, &mut [0; 17 * 512]);
             }
         }
     }
 
-    /// One board from its opening through many changes, with wrong calls between them.
+    /// One board from its opening through many changes, made at once and waiting, with wrong calls between them.
     pub fn churn(&mut self, seed: u64) {
         let mut random = Random::new(seed);
         let c = some_capacity(&mut random);
         let mut board: Vec<u16> = (0..usize::from(c) + random.below(4)).map(|_| random.draw() as u16).collect();
-        let mut record = self.open(c, &mut board).record;
+        let mut list = some_list(&mut random, &[]);
+        let mut record = self.open(c, &mut board, &mut list).record;
         if random.one_in(2) {
             record.round = some_round(&mut random);
         }
@@ -246,7 +346,7 @@ impl<'a, C: Calls> Trial<'a, C> {
             if record.position != 1 && random.one_in(3) {
                 record.position = 1;
             }
-            match random.below(12) {
+            match random.below(14) {
                 0..=3 => {
                     let name = some_name(&mut random, &names);
                     let weight = if random.one_in(12) {
@@ -254,11 +354,11 @@ impl<'a, C: Calls> Trial<'a, C> {
                     } else {
                         1 + random.below(largest) as u16
                     };
-                    let answer = self.add(record, &mut board, name, weight);
+                    let answer = self.add(record, &mut board, &mut list, name, weight);
                     match (answer.number, answer.values[0]) {
-                        (0, _) => names.push(name),
+                        (0 | 13, _) => names.push(name),
                         (10, idle) if idle > 0 => {
-                            let asked = self.add(record, &mut board.clone(), name, idle as u16);
+                            let asked = self.add(record, &mut board.clone(), &mut list.clone(), name, idle as u16);
                             assert_eq!(asked.number, 0, "ROOM said {idle}");
                         }
                         _ => {}
@@ -270,13 +370,13 @@ impl<'a, C: Calls> Trial<'a, C> {
                     } else {
                         random.pick(&names)
                     };
-                    if self.remove(record, &mut board, name).number == 0 {
+                    if matches!(self.remove(record, &mut board, &mut list, name).number, 0 | 13) {
                         names.retain(|&x| x != name);
                     }
                 }
                 7 => {
                     for _ in 0..random.below(9) {
-                        record = self.slot(record, &board).record;
+                        record = self.slot(record, &mut board, &mut list).record;
                     }
                 }
                 8 => {
@@ -285,15 +385,68 @@ impl<'a, C: Calls> Trial<'a, C> {
                     let name = some_name(&mut random, &names);
                     self.report(record, &board, name);
                 }
-                9 => self.sheets(&mut random, record, &board),
-                10 => self.damaged(&mut random, record, &board, &names),
-                _ => self.wrong(&mut random, record, &board, &names),
+                9 => self.sheets(&mut random, record, &board, &list),
+                10 => self.damaged(&mut random, record, &board, &list, &names),
+                11 => {
+                    for _ in 0..random.below(5) {
+                        let ticket = some_ticket(&mut random, &list);
+                        self.fetch(&mut list, ticket, false);
+                    }
+                }
+                12 => self.odd(&mut random, record, &board, &names),
+                _ => self.wrong(&mut random, record, &board, &list, &names),
+            }
+            if random.one_in(60) {
+                self.crowd(&mut random, record, &board, &list, &names);
             }
         }
     }
 
+    /// More orders than there are places, in the middle of a round, then the round's start and every answer, on copies.
+    fn crowd(&mut self, random: &mut Random, record: Record, board: &[u16], list: &[u64], names: &[u16]) {
+        let (mut board, mut list) = (board.to_vec(), list.to_vec());
+        let away = Record { position: 2, ..record };
+        for _ in 0..waiting::PLACES + 2 {
+            let name = some_name(random, names);
+            if random.one_in(2) {
+                self.remove(away, &mut board, &mut list, name);
+            } else {
+                self.add(away, &mut board, &mut list, name, 1 + random.below(3) as u16);
+            }
+        }
+        if random.one_in(3) {
+            let at = random.below(usize::from(record.capacity));
+            board[at] = board[random.below(usize::from(record.capacity))];
+        }
+        let start = Record { position: 1, ..record };
+        self.slot(start, &mut board, &mut list);
+        self.add(start, &mut board.clone(), &mut list.clone(), some_name(random, names), 1);
+        self.add(away, &mut board.clone(), &mut list.clone(), some_name(random, names), 1);
+        for ticket in list[0].saturating_sub(70)..=list[0] {
+            self.fetch(&mut list, ticket, false);
+        }
+        self.slot(start, &mut board, &mut list);
+    }
+
+    /// Every call that is lent the list with one that no call left, on copies.
+    fn odd(&mut self, random: &mut Random, record: Record, board: &[u16], names: &[u16]) {
+        let (mut board, mut list) = (board.to_vec(), some_list(random, names));
+        for _ in 0..4 {
+            let name = some_name(random, names);
+            let at = Record {
+                position: random.pick(&[1, 1, 2]),
+                ..record
+            };
+            self.add(at, &mut board, &mut list, name, random.below(4) as u16);
+            self.remove(at, &mut board, &mut list, name);
+            self.slot(at, &mut board, &mut list);
+            let ticket = some_ticket(random, &list);
+            self.fetch(&mut list, ticket, true);
+        }
+    }
+
     /// Every call with a record, a capacity or a length that is wrong, on copies.
-    fn wrong(&mut self, random: &mut Random, record: Record, board: &[u16], names: &[u16]) {
+    fn wrong(&mut self, random: &mut Random, record: Record, board: &[u16], list: &[u64], names: &[u16]) {
         let wrong = [
             0,
             1,
@@ -330,35 +483,40 @@ impl<'a, C: Calls> Trial<'a, C> {
         let board = &board[..lent];
         let name = some_name(random, names);
         let weight = random.pick(&[0, 1, 2, 3, 65535]);
-        self.open(r.capacity, &mut board.to_vec());
-        self.add(r, &mut board.to_vec(), name, weight);
-        self.remove(r, &mut board.to_vec(), name);
-        self.slot(r, board);
+        let mut list = list.to_vec();
+        if random.one_in(3) {
+            list.truncate(random.pick(&[0, 1, 3, LENGTH - 1]));
+        }
+        self.open(r.capacity, &mut board.to_vec(), &mut list.clone());
+        self.add(r, &mut board.to_vec(), &mut list.clone(), name, weight);
+        self.remove(r, &mut board.to_vec(), &mut list.clone(), name);
+        self.slot(r, &mut board.to_vec(), &mut list.clone());
+        self.fetch(&mut list, random.pick(&[0, 1, 2]), false);
         self.round(r, board, &mut vec![5; random.below(2 * lent + 1)]);
         self.report(r, board, name);
         self.save(r, board, &mut vec![5; 512 * random.below(19)]);
     }
 
     /// Every call on a board with a few leaves changed, on copies.
-    fn damaged(&mut self, random: &mut Random, record: Record, board: &[u16], names: &[u16]) {
+    fn damaged(&mut self, random: &mut Random, record: Record, board: &[u16], list: &[u64], names: &[u16]) {
         let mut board = board.to_vec();
         for _ in 0..1 + random.below(3) {
             let at = random.below(board.len());
             board[at] = if random.one_in(3) { 0 } else { some_name(random, names) };
         }
         let name = some_name(random, names);
-        self.add(record, &mut board.clone(), name, 1);
-        self.remove(record, &mut board.clone(), name);
-        self.slot(record, &board);
+        self.add(record, &mut board.clone(), &mut list.to_vec(), name, 1);
+        self.remove(record, &mut board.clone(), &mut list.to_vec(), name);
+        self.slot(record, &mut board.clone(), &mut list.to_vec());
         self.report(record, &board, name);
         let mut sheet = vec![3; 17 * 512];
         self.save(record, &board, &mut sheet);
         let bytes = letter::sheet(&board[..record.capacity.into()]);
-        self.read(&bytes, &mut board);
+        self.read(&bytes, &mut board, &mut list.to_vec());
     }
 
     /// Saves, reads back, and reads what is left after one damage of each kind.
-    fn sheets(&mut self, random: &mut Random, record: Record, board: &[u16]) {
+    fn sheets(&mut self, random: &mut Random, record: Record, board: &[u16], list: &[u64]) {
         let c = usize::from(record.capacity);
         let bytes = c.div_ceil(253) * 512;
         let mut output = vec![1; bytes + random.below(3) * 511];
@@ -392,8 +550,41 @@ impl<'a, C: Calls> Trial<'a, C> {
                 mend_sums(&mut damaged);
             }
             let mut lent = vec![6; (c + 2).saturating_sub(random.below(4))];
-            self.read(&damaged, &mut lent);
+            let short = if random.one_in(4) { LENGTH - 1 } else { list.len() };
+            self.read(&damaged, &mut lent, &mut list[..short].to_vec());
         }
+    }
+}
+
+/// An empty list from which no ticket was given.
+const EMPTY: [u64; LENGTH] = [0; LENGTH];
+
+/// A list as long as it must be or longer: empty, with few tickets left, or with numbers that no call left, some of them of the names.
+fn some_list(random: &mut Random, names: &[u16]) -> Vec<u64> {
+    let mut list = vec![0; LENGTH + random.below(4)];
+    list[0] = random.pick(&[0, 0, 7, u64::MAX - 3, u64::MAX]);
+    if random.one_in(2) {
+        for number in &mut list[1..] {
+            *number = match random.below(4) {
+                0 => random.below(4) as u64,
+                1 => some_name(random, names).into(),
+                2 => 65536 * random.below(3) as u64 + u64::from(some_name(random, names)),
+                _ => random.draw(),
+            };
+        }
+        for count in [1, 2] {
+            list[count] = random.pick(&[0, 1, 3, 20, 63, 64, 65, u64::MAX]);
+        }
+    }
+    list
+}
+
+/// A ticket that stands on the list, or is near the last one given, or none.
+fn some_ticket(random: &mut Random, list: &[u64]) -> u64 {
+    match random.below(4) {
+        0 => list[3 + 4 * random.below(waiting::PLACES)],
+        1 => random.below(3) as u64,
+        _ => list[0].wrapping_sub(random.below(6) as u64),
     }
 }
 

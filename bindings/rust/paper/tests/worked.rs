@@ -124,3 +124,63 @@ fn rounds() {
         assert_eq!(slot(last(3, 4), &[5, 6, 7]), Answer::refused(last(3, 4), 3));
     }
 }
+
+/// Document 02, No. 2: what a near miss of the list would tell.
+#[test]
+fn waiting_list() {
+    use paper::trial::Letter as P;
+    use paper::waiting::{add, fetch, open, read, remove, slot, LENGTH};
+    let (mut board, mut list) = ([0; 4], [0; LENGTH + 1]);
+    list[LENGTH] = 77;
+    let start = open::<P>(4, &mut board, &mut list).record;
+    let away = Record { position: 2, ..start };
+
+    // A taken name is no reason to refuse an order; a change at p = 1 does not overtake those that wait; 1 comes before 2.
+    assert_eq!(add::<P>(start, &mut board, &mut list, 1, 3).values[0], 1);
+    assert_eq!(remove::<P>(away, &mut board, &mut list, 1).values[0], 1);
+    assert_eq!(add::<P>(away, &mut board, &mut list, 1, 2).values[0], 2);
+    assert_eq!(add::<P>(start, &mut board, &mut list, 2, 9).values[0], 3);
+    assert_eq!(
+        (fetch(&mut list, 1), fetch(&mut list, 0), fetch(&mut list, 4)),
+        ((13, 1), (15, 0), (15, 0))
+    );
+    assert_eq!(board, [1, 1, 1, 0]);
+
+    // The list runs before the leaf is picked, and each answer is fetched once.
+    assert_eq!(slot::<P>(start, &mut board, &mut list).values[0], 1);
+    assert_eq!(board, [1, 1, 0, 0]);
+    assert_eq!((fetch(&mut list, 3), fetch(&mut list, 3)), ((10, 2), (15, 0)));
+    assert_eq!((fetch(&mut list, 2), fetch(&mut list, 1)), ((0, 2), (0, 4)));
+
+    // 64 answers that nobody fetched: at p = 1 a change is made at once, elsewhere there is no place.
+    for ticket in 4..68 {
+        assert_eq!(remove::<P>(away, &mut board, &mut list, 9).values[0], ticket);
+    }
+    assert_eq!(remove::<P>(away, &mut board, &mut list, 9).number, 14);
+    slot::<P>(start, &mut board, &mut list);
+    assert_eq!(add::<P>(start, &mut board, &mut list, 5, 1), Answer::done(start, [1, 0, 0, 0]));
+    assert_eq!(add::<P>(away, &mut board, &mut list, 6, 1).number, 14);
+    assert_eq!(fetch(&mut list, 30), (9, 0));
+    assert_eq!(add::<P>(away, &mut board, &mut list, 6, 1).values[0], 68);
+
+    // A refused open keeps the list; an accepted one or a read empties it, and the tickets go on.
+    open::<P>(5, &mut board, &mut list);
+    assert_eq!(fetch(&mut list, 68), (13, 68));
+    let sheet = letter::sheet(&board);
+    assert_eq!(read::<P>(&sheet, &mut board, &mut list).number, 0);
+    assert_eq!((fetch(&mut list, 68), fetch(&mut list, 31)), ((15, 0), (15, 0)));
+    assert_eq!(add::<P>(away, &mut board, &mut list, 6, 1).values[0], 69);
+
+    // On a damaged board each order is answered 5, and the slot serves.
+    let mut damaged = [1, 0, 1, 0];
+    assert_eq!(slot::<P>(start, &mut damaged, &mut list).number, 0);
+    assert_eq!((fetch(&mut list, 69), damaged), ((5, 0), [1, 0, 1, 0]));
+
+    // The last ticket is 2^64 - 1; a list that is too short is 2, and knows no ticket; entries beyond it stay.
+    list[0] = u64::MAX - 1;
+    assert_eq!(add::<P>(away, &mut board, &mut list, 6, 1).values[0], u64::MAX);
+    assert_eq!(add::<P>(away, &mut board, &mut list, 7, 1).number, 14);
+    assert_eq!(slot::<P>(start, &mut board, &mut list[..LENGTH - 1]), Answer::refused(start, 2));
+    assert_eq!(fetch(&mut list[..LENGTH - 1], u64::MAX), (15, 0));
+    assert_eq!(list[LENGTH], 77);
+}

@@ -34,18 +34,21 @@ impl Server {
 
     /// One call, written whole before its answer is read. The head is what is called, the name and the weight; serve.c's `struct call` has the
     /// order.
-    fn ask(&mut self, head: [u16; 3], drive: Drive, board: Lent, other: Lent) -> Reply {
-        let [first, second] = [&board, &other].map(|slice| u16::try_from(slice.bytes().len()).expect("a slice of the comparison is short"));
-        let rest = [first, second, drive.capacity, drive.position, 0];
-        let mut call: Vec<u8> = head.iter().chain(&rest).flat_map(|n| n.to_le_bytes()).collect();
+    fn ask(&mut self, head: [u16; 3], drive: Drive, board: Lent, list: Lent, other: Lent) -> Reply {
+        let lengths = [&board, &list, &other].map(|slice| u16::try_from(slice.bytes().len()).expect("a slice of the comparison is short"));
+        let place = [drive.capacity, drive.position];
+        let words = head.iter().chain(&lengths).chain(&place);
+        let mut call: Vec<u8> = words.flat_map(|n| n.to_le_bytes()).collect();
         call.extend_from_slice(&drive.round.to_le_bytes());
-        call.extend_from_slice(board.bytes());
-        call.extend_from_slice(other.bytes());
+        for slice in [&board, &list, &other] {
+            call.extend_from_slice(slice.bytes());
+        }
         let mut reply = [0; size_of::<Reply>()];
         let answered = self.calls.write_all(&call).and_then(|()| self.answers.read_exact(&mut reply));
         answered.unwrap_or_else(|why| panic!("the process ended at the call {head:?} of {drive:?}: {why}"));
-        board.take_back(&mut self.answers);
-        other.take_back(&mut self.answers);
+        for slice in [board, list, other] {
+            slice.take_back(&mut self.answers);
+        }
         let long = |at: usize| u64::from_le_bytes(reply[at..at + 8].try_into().unwrap());
         Reply {
             drive: Drive {
@@ -104,44 +107,59 @@ impl Lent<'_> {
     }
 }
 
-fn ask(call: u16, drive: Drive, name: u16, weight: u16, board: Lent, other: Lent) -> Reply {
-    SERVER.with_borrow_mut(|server| server.ask([call, name, weight], drive, board, other))
+fn ask(call: u16, drive: Drive, name: u16, weight: u16, [board, list, other]: [Lent; 3]) -> Reply {
+    SERVER.with_borrow_mut(|server| server.ask([call, name, weight], drive, board, list, other))
 }
 
 // In the order of serve.c. SAFETY: as raw.rs asks, pointer and length are of one slice.
 #[no_mangle]
-unsafe extern "C" fn mandrozsi_open(capacity: u16, board: *mut u16, entries: usize) -> Reply {
+unsafe extern "C" fn mandrozsi_open(capacity: u16, board: *mut u16, entries: usize, list: *mut u64, numbers: usize) -> Reply {
     let drive = Drive {
         capacity,
         ..Drive::default()
     };
-    ask(0, drive, 0, 0, Lent::changed(board, entries), NONE)
+    ask(0, drive, 0, 0, [Lent::changed(board, entries), Lent::changed(list, numbers), NONE])
 }
 #[no_mangle]
-unsafe extern "C" fn mandrozsi_add(drive: Drive, board: *mut u16, entries: usize, name: u16, weight: u16) -> Reply {
-    ask(1, drive, name, weight, Lent::changed(board, entries), NONE)
+unsafe extern "C" fn mandrozsi_add(drive: Drive, board: *mut u16, entries: usize, list: *mut u64, numbers: usize, name: u16, weight: u16) -> Reply {
+    ask(
+        1,
+        drive,
+        name,
+        weight,
+        [Lent::changed(board, entries), Lent::changed(list, numbers), NONE],
+    )
 }
 #[no_mangle]
-unsafe extern "C" fn mandrozsi_remove(drive: Drive, board: *mut u16, entries: usize, name: u16) -> Reply {
-    ask(2, drive, name, 0, Lent::changed(board, entries), NONE)
+unsafe extern "C" fn mandrozsi_remove(drive: Drive, board: *mut u16, entries: usize, list: *mut u64, numbers: usize, name: u16) -> Reply {
+    ask(2, drive, name, 0, [Lent::changed(board, entries), Lent::changed(list, numbers), NONE])
 }
 #[no_mangle]
-unsafe extern "C" fn mandrozsi_slot(drive: Drive, board: *const u16, entries: usize) -> Reply {
-    ask(3, drive, 0, 0, Lent::shared(board, entries), NONE)
+unsafe extern "C" fn mandrozsi_slot(drive: Drive, board: *mut u16, entries: usize, list: *mut u64, numbers: usize) -> Reply {
+    ask(3, drive, 0, 0, [Lent::changed(board, entries), Lent::changed(list, numbers), NONE])
 }
 #[no_mangle]
 unsafe extern "C" fn mandrozsi_round(drive: Drive, board: *const u16, entries: usize, output: *mut u16, length: usize) -> Reply {
-    ask(4, drive, 0, 0, Lent::shared(board, entries), Lent::changed(output, length))
+    ask(4, drive, 0, 0, [Lent::shared(board, entries), NONE, Lent::changed(output, length)])
 }
 #[no_mangle]
 unsafe extern "C" fn mandrozsi_report(drive: Drive, board: *const u16, entries: usize, name: u16) -> Reply {
-    ask(5, drive, name, 0, Lent::shared(board, entries), NONE)
+    ask(5, drive, name, 0, [Lent::shared(board, entries), NONE, NONE])
 }
 #[no_mangle]
 unsafe extern "C" fn mandrozsi_save(drive: Drive, board: *const u16, entries: usize, output: *mut u8, length: usize) -> Reply {
-    ask(6, drive, 0, 0, Lent::shared(board, entries), Lent::changed(output, length))
+    ask(6, drive, 0, 0, [Lent::shared(board, entries), NONE, Lent::changed(output, length)])
 }
 #[no_mangle]
-unsafe extern "C" fn mandrozsi_read(sheet: *const u8, length: usize, board: *mut u16, entries: usize) -> Reply {
-    ask(7, Drive::default(), 0, 0, Lent::changed(board, entries), Lent::shared(sheet, length))
+unsafe extern "C" fn mandrozsi_read(sheet: *const u8, length: usize, board: *mut u16, entries: usize, list: *mut u64, numbers: usize) -> Reply {
+    let lent = [Lent::changed(board, entries), Lent::changed(list, numbers), Lent::shared(sheet, length)];
+    ask(7, Drive::default(), 0, 0, lent)
+}
+#[no_mangle]
+unsafe extern "C" fn mandrozsi_fetch(list: *mut u64, numbers: usize, ticket: u64) -> Said {
+    let asked = Drive {
+        round: ticket,
+        ..Drive::default()
+    };
+    ask(8, asked, 0, 0, [NONE, Lent::changed(list, numbers), NONE]).said
 }

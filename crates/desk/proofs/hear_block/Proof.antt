@@ -9,13 +9,13 @@ use Rattle.desk.proofs.hear_block.Statement.{statement}
 use Rattle.desk.proofs.hear_block.Tie as tie
 
 abbrev Inv-loop : tie.InvT-loop
-Inv-loop input board₀ out₀ s₀ at₀ board out s at = ((at ≤ length input) × (length board ≡ length board₀) × (length out ≡ length out₀)) × Follows s₀ board₀ s board
+Inv-loop input board₀ list₀ out₀ s₀ at₀ board list out s at = ((at ≤ length input) × (length board ≡ length board₀) × (length list ≡ length list₀) × (length out ≡ length out₀)) × Follows s₀ board₀ list₀ s board list
 
 abbrev μ-loop : tie.MeasureT-loop
-μ-loop input board₀ out₀ s₀ at₀ board out s at = length input - at
+μ-loop input board₀ list₀ out₀ s₀ at₀ board list out s at = length input - at
 
 loop-holds : tie.Need-loop-holds Inv-loop μ-loop
-loop-holds c = (omega arith, at-first _ _)
+loop-holds c = (omega arith, at-first _ _ _)
 
 sub-feed : tie.Need-sub-feed Inv-loop μ-loop
 sub-feed c = omega arith
@@ -30,46 +30,55 @@ feed-requires : tie.Need-feed-requires Inv-loop μ-loop
 feed-requires c κs = tt
 
 slice-reshare-prefix-write-all : tie.Need-slice-reshare-prefix-write-all Inv-loop μ-loop
-slice-reshare-prefix-write-all c = c .before .before .before .before .before .feed .ensures .counts .0
+slice-reshare-prefix-write-all c = c .before .before .before .before .before .before .before .feed .ensures .counts .0
 
 slice-aggregate-write-all : tie.Need-slice-aggregate-write-all Inv-loop μ-loop
-slice-aggregate-write-all c = c .before .before .before .before .before .before .feed .ensures .counts .1
+slice-aggregate-write-all c = c .before .before .before .before .before .before .before .before .feed .ensures .counts .1
 
 write-all-requires : tie.Need-write-all-requires Inv-loop μ-loop
 write-all-requires c κs = tt
 
 same-length : tie.Need-same-length Inv-loop μ-loop
-same-length c = omega (arith, c .before .before .before .before .before .before .before .before .feed .kept .1 .1 .0, c .before .before .before .before .before .before .before .before .feed .kept .1 .1 .1 .0)
+same-length c = omega (arith, c .before .before .before .before .before .before .before .before .before .before .feed .kept .1 .1 .0, c .before .before .before .before .before .before .before .before .before .before .feed .kept .1 .1 .1 .0, c .before .before .before .before .before .before .before .before .before .before .feed .kept .1 .1 .1 .1 .0)
 
 same-length-2 : tie.Need-same-length-2 Inv-loop μ-loop
-same-length-2 c = omega (arith, c .before .before .before .before .before .before .before .before .feed .kept .1 .1 .0, c .before .before .before .before .before .before .before .before .feed .kept .1 .1 .1 .0)
-
-returns : tie.Need-returns Inv-loop μ-loop
-returns c = then _ _ _ _ _ _ (c .before .before .before .before .before .before .before .before .before .before .before .before .before .loop .inv .1) (fed-follows _ _ _ _ _ _ _ (c .before .before .before .before .before .before .before .before .feed .ensures))
+same-length-2 c = omega (arith, c .before .before .before .before .before .before .before .before .before .before .feed .kept .1 .1 .0, c .before .before .before .before .before .before .before .before .before .before .feed .kept .1 .1 .1 .0, c .before .before .before .before .before .before .before .before .before .before .feed .kept .1 .1 .1 .1 .0)
 
 same-length-3 : tie.Need-same-length-3 Inv-loop μ-loop
-same-length-3 c = omega (arith, c .before .before .before .before .before .before .before .before .before .feed .kept .1 .1 .0, c .before .before .before .before .before .before .before .before .before .feed .kept .1 .1 .1 .0)
+same-length-3 c = omega (arith, c .before .before .before .before .before .before .before .before .before .before .feed .kept .1 .1 .0, c .before .before .before .before .before .before .before .before .before .before .feed .kept .1 .1 .1 .0, c .before .before .before .before .before .before .before .before .before .before .feed .kept .1 .1 .1 .1 .0)
+
+returns : tie.Need-returns Inv-loop μ-loop
+returns c = then _ _ _ _ _ _ _ _ _ (c .before .before .before .before .before .before .before .before .before .before .before .before .before .before .before .before .loop .inv .1) (fed-follows _ _ _ _ _ _ _ _ _ (c .before .before .before .before .before .before .before .before .before .before .feed .ensures))
 
 same-length-4 : tie.Need-same-length-4 Inv-loop μ-loop
-same-length-4 c = omega (arith, c .before .before .before .before .before .before .before .before .before .feed .kept .1 .1 .0, c .before .before .before .before .before .before .before .before .before .feed .kept .1 .1 .1 .0)
-
-returns-2 : tie.Need-returns-2 Inv-loop μ-loop
-returns-2 c = then _ _ _ _ _ _ (c .before .before .before .before .before .before .before .before .before .before .before .before .before .before .loop .inv .1) (fed-follows _ _ _ _ _ _ _ (c .before .before .before .before .before .before .before .before .before .feed .ensures))
-
-add-at : tie.Need-add-at Inv-loop μ-loop
-add-at c = omega (arith, simp (length-take, length-drop) at (c .before .before .before .before .before .before .before .before .before .feed .ensures .used))
-
-loop-less : tie.Need-loop-less Inv-loop μ-loop
-loop-less c = omega (arith, simp (length-take, length-drop) at (c .before .before .before .before .before .before .before .before .before .feed .ensures .used))
-
-loop-again : tie.Need-loop-again Inv-loop μ-loop
-loop-again c = (omega (arith, simp (length-take, length-drop) at (c .before .before .before .before .before .before .before .before .before .feed .ensures .used), c .before .before .before .before .before .before .before .before .before .feed .kept .1 .1 .0, c .before .before .before .before .before .before .before .before .before .feed .kept .1 .1 .1 .0), then _ _ _ _ _ _ (c .before .before .before .before .before .before .before .before .before .before .before .before .before .before .loop .inv .1) (fed-follows _ _ _ _ _ _ _ (c .before .before .before .before .before .before .before .before .before .feed .ensures)))
+same-length-4 c = omega (arith, c .before .before .before .before .before .before .before .before .before .before .before .feed .kept .1 .1 .0, c .before .before .before .before .before .before .before .before .before .before .before .feed .kept .1 .1 .1 .0, c .before .before .before .before .before .before .before .before .before .before .before .feed .kept .1 .1 .1 .1 .0)
 
 same-length-5 : tie.Need-same-length-5 Inv-loop μ-loop
-same-length-5 c = omega arith
+same-length-5 c = omega (arith, c .before .before .before .before .before .before .before .before .before .before .before .feed .kept .1 .1 .0, c .before .before .before .before .before .before .before .before .before .before .before .feed .kept .1 .1 .1 .0, c .before .before .before .before .before .before .before .before .before .before .before .feed .kept .1 .1 .1 .1 .0)
 
 same-length-6 : tie.Need-same-length-6 Inv-loop μ-loop
-same-length-6 c = omega arith
+same-length-6 c = omega (arith, c .before .before .before .before .before .before .before .before .before .before .before .feed .kept .1 .1 .0, c .before .before .before .before .before .before .before .before .before .before .before .feed .kept .1 .1 .1 .0, c .before .before .before .before .before .before .before .before .before .before .before .feed .kept .1 .1 .1 .1 .0)
+
+returns-2 : tie.Need-returns-2 Inv-loop μ-loop
+returns-2 c = then _ _ _ _ _ _ _ _ _ (c .before .before .before .before .before .before .before .before .before .before .before .before .before .before .before .before .before .loop .inv .1) (fed-follows _ _ _ _ _ _ _ _ _ (c .before .before .before .before .before .before .before .before .before .before .before .feed .ensures))
+
+add-at : tie.Need-add-at Inv-loop μ-loop
+add-at c = omega (arith, simp (length-take, length-drop) at (c .before .before .before .before .before .before .before .before .before .before .before .feed .ensures .used))
+
+loop-less : tie.Need-loop-less Inv-loop μ-loop
+loop-less c = omega (arith, simp (length-take, length-drop) at (c .before .before .before .before .before .before .before .before .before .before .before .feed .ensures .used))
+
+loop-again : tie.Need-loop-again Inv-loop μ-loop
+loop-again c = (omega (arith, simp (length-take, length-drop) at (c .before .before .before .before .before .before .before .before .before .before .before .feed .ensures .used), c .before .before .before .before .before .before .before .before .before .before .before .feed .kept .1 .1 .0, c .before .before .before .before .before .before .before .before .before .before .before .feed .kept .1 .1 .1 .0, c .before .before .before .before .before .before .before .before .before .before .before .feed .kept .1 .1 .1 .1 .0), then _ _ _ _ _ _ _ _ _ (c .before .before .before .before .before .before .before .before .before .before .before .before .before .before .before .before .before .loop .inv .1) (fed-follows _ _ _ _ _ _ _ _ _ (c .before .before .before .before .before .before .before .before .before .before .before .feed .ensures)))
+
+same-length-7 : tie.Need-same-length-7 Inv-loop μ-loop
+same-length-7 c = omega arith
+
+same-length-8 : tie.Need-same-length-8 Inv-loop μ-loop
+same-length-8 c = omega arith
+
+same-length-9 : tie.Need-same-length-9 Inv-loop μ-loop
+same-length-9 c = omega arith
 
 returns-3 : tie.Need-returns-3 Inv-loop μ-loop
 returns-3 c = c .before .loop .inv .1
@@ -90,13 +99,16 @@ hear-block-spec =
     write-all-requires
     same-length
     same-length-2
-    returns
     same-length-3
+    returns
     same-length-4
+    same-length-5
+    same-length-6
     returns-2
     add-at
     loop-less
     loop-again
-    same-length-5
-    same-length-6
+    same-length-7
+    same-length-8
+    same-length-9
     returns-3)

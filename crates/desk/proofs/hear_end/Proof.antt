@@ -22,8 +22,11 @@ same-length c = search needs
 same-length-2 : tie.Need-same-length-2
 same-length-2 c = search needs
 
+same-length-3 : tie.Need-same-length-3
+same-length-3 c = search needs
+
 returns : tie.Need-returns
-returns c = fed-follows _ _ _ _ _ _ _ (c .before .before .before .before .before .before .before .finish .ensures)
+returns c = fed-follows _ _ _ _ _ _ _ _ _ (c .before .before .before .before .before .before .before .before .before .finish .ensures)
 
 pub hear-end-spec : {M : Type 1} → statement M
 hear-end-spec =
@@ -35,4 +38,5 @@ hear-end-spec =
     write-all-requires
     same-length
     same-length-2
+    same-length-3
     returns)

@@ -9,31 +9,34 @@ use Rattle.desk.proofs.talk.Statement.{statement}
 use Rattle.desk.proofs.talk.Tie as tie
 
 abbrev Inv-loop : tie.InvT-loop
-Inv-loop input₀ board₀ out₀ session₀ turns₀ input board out session turns = ((length input ≡ length input₀) × (length board ≡ length board₀) × (length out ≡ length out₀)) × Follows started board₀ session board
+Inv-loop input₀ board₀ list₀ out₀ session₀ turns₀ input board list out session turns = ((length input ≡ length input₀) × (length board ≡ length board₀) × (length list ≡ length list₀) × (length out ≡ length out₀)) × Follows started board₀ list₀ session board list
 
 abbrev μ-loop : tie.MeasureT-loop
-μ-loop input₀ board₀ out₀ session₀ turns₀ input board out session turns = turns
+μ-loop input₀ board₀ list₀ out₀ session₀ turns₀ input board list out session turns = turns
 
 new-requires : tie.Need-new-requires Inv-loop μ-loop
 new-requires c κs = tt
 
 loop-holds : tie.Need-loop-holds Inv-loop μ-loop
-loop-holds c = (omega arith, rw (← c .new .ensures) (at-first _ _))
+loop-holds c = (omega arith, rw (← c .new .ensures) (at-first _ _ _))
 
 take-turn-requires : tie.Need-take-turn-requires Inv-loop μ-loop
 take-turn-requires c κs = tt
 
 same-length : tie.Need-same-length Inv-loop μ-loop
-same-length c = omega (arith, c .before .before .before .before .before .before .before .before .before .take-turn .kept .1 .0, c .before .before .before .before .before .before .before .before .before .take-turn .kept .1 .1 .0, c .before .before .before .before .before .before .before .before .before .take-turn .kept .1 .1 .1 .0)
+same-length c = omega (arith, c .before .before .before .before .before .before .before .before .before .before .before .take-turn .kept .1 .0, c .before .before .before .before .before .before .before .before .before .before .before .take-turn .kept .1 .1 .0, c .before .before .before .before .before .before .before .before .before .before .before .take-turn .kept .1 .1 .1 .0, c .before .before .before .before .before .before .before .before .before .before .before .take-turn .kept .1 .1 .1 .1 .0)
 
 same-length-2 : tie.Need-same-length-2 Inv-loop μ-loop
-same-length-2 c = omega (arith, c .before .before .before .before .before .before .before .before .before .take-turn .kept .1 .0, c .before .before .before .before .before .before .before .before .before .take-turn .kept .1 .1 .0, c .before .before .before .before .before .before .before .before .before .take-turn .kept .1 .1 .1 .0)
+same-length-2 c = omega (arith, c .before .before .before .before .before .before .before .before .before .before .before .take-turn .kept .1 .0, c .before .before .before .before .before .before .before .before .before .before .before .take-turn .kept .1 .1 .0, c .before .before .before .before .before .before .before .before .before .before .before .take-turn .kept .1 .1 .1 .0, c .before .before .before .before .before .before .before .before .before .before .before .take-turn .kept .1 .1 .1 .1 .0)
 
 same-length-3 : tie.Need-same-length-3 Inv-loop μ-loop
-same-length-3 c = omega (arith, c .before .before .before .before .before .before .before .before .before .take-turn .kept .1 .0, c .before .before .before .before .before .before .before .before .before .take-turn .kept .1 .1 .0, c .before .before .before .before .before .before .before .before .before .take-turn .kept .1 .1 .1 .0)
+same-length-3 c = omega (arith, c .before .before .before .before .before .before .before .before .before .before .before .take-turn .kept .1 .0, c .before .before .before .before .before .before .before .before .before .before .before .take-turn .kept .1 .1 .0, c .before .before .before .before .before .before .before .before .before .before .before .take-turn .kept .1 .1 .1 .0, c .before .before .before .before .before .before .before .before .before .before .before .take-turn .kept .1 .1 .1 .1 .0)
+
+same-length-4 : tie.Need-same-length-4 Inv-loop μ-loop
+same-length-4 c = omega (arith, c .before .before .before .before .before .before .before .before .before .before .before .take-turn .kept .1 .0, c .before .before .before .before .before .before .before .before .before .before .before .take-turn .kept .1 .1 .0, c .before .before .before .before .before .before .before .before .before .before .before .take-turn .kept .1 .1 .1 .0, c .before .before .before .before .before .before .before .before .before .before .before .take-turn .kept .1 .1 .1 .1 .0)
 
 returns : tie.Need-returns Inv-loop μ-loop
-returns c = follows-served _ _ _ (then _ _ _ _ _ _ (c .before .before .before .before .before .before .before .before .before .before .before .before .before .before .loop .inv .1) (c .before .before .before .before .before .before .before .before .before .take-turn .ensures))
+returns c = follows-served _ _ _ _ _ (then _ _ _ _ _ _ _ _ _ (c .before .before .before .before .before .before .before .before .before .before .before .before .before .before .before .before .before .loop .inv .1) (c .before .before .before .before .before .before .before .before .before .before .before .take-turn .ensures))
 
 sub-turns : tie.Need-sub-turns Inv-loop μ-loop
 sub-turns c = omega arith
@@ -42,10 +45,7 @@ loop-less : tie.Need-loop-less Inv-loop μ-loop
 loop-less c = omega arith
 
 loop-again : tie.Need-loop-again Inv-loop μ-loop
-loop-again c = (omega (arith, c .before .before .before .before .before .before .before .before .before .take-turn .kept .1 .0, c .before .before .before .before .before .before .before .before .before .take-turn .kept .1 .1 .0, c .before .before .before .before .before .before .before .before .before .take-turn .kept .1 .1 .1 .0), then _ _ _ _ _ _ (c .before .before .before .before .before .before .before .before .before .before .before .before .before .before .loop .inv .1) (c .before .before .before .before .before .before .before .before .before .take-turn .ensures))
-
-same-length-4 : tie.Need-same-length-4 Inv-loop μ-loop
-same-length-4 c = omega arith
+loop-again c = (omega (arith, c .before .before .before .before .before .before .before .before .before .before .before .take-turn .kept .1 .0, c .before .before .before .before .before .before .before .before .before .before .before .take-turn .kept .1 .1 .0, c .before .before .before .before .before .before .before .before .before .before .before .take-turn .kept .1 .1 .1 .0, c .before .before .before .before .before .before .before .before .before .before .before .take-turn .kept .1 .1 .1 .1 .0), then _ _ _ _ _ _ _ _ _ (c .before .before .before .before .before .before .before .before .before .before .before .before .before .before .before .before .before .loop .inv .1) (c .before .before .before .before .before .before .before .before .before .before .before .take-turn .ensures))
 
 same-length-5 : tie.Need-same-length-5 Inv-loop μ-loop
 same-length-5 c = omega arith
@@ -53,8 +53,14 @@ same-length-5 c = omega arith
 same-length-6 : tie.Need-same-length-6 Inv-loop μ-loop
 same-length-6 c = omega arith
 
+same-length-7 : tie.Need-same-length-7 Inv-loop μ-loop
+same-length-7 c = omega arith
+
+same-length-8 : tie.Need-same-length-8 Inv-loop μ-loop
+same-length-8 c = omega arith
+
 returns-2 : tie.Need-returns-2 Inv-loop μ-loop
-returns-2 c = follows-served _ _ _ (c .before .loop .inv .1)
+returns-2 c = follows-served _ _ _ _ _ (c .before .loop .inv .1)
 
 pub talk-spec : {M : Type 1} → statement M
 talk-spec =
@@ -68,11 +74,13 @@ talk-spec =
     same-length
     same-length-2
     same-length-3
+    same-length-4
     returns
     sub-turns
     loop-less
     loop-again
-    same-length-4
     same-length-5
     same-length-6
+    same-length-7
+    same-length-8
     returns-2)

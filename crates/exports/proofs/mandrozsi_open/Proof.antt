@@ -15,8 +15,13 @@ said-opening-requires c κs = search needs
 same-length : tie.Need-same-length
 same-length c = search needs
 
+same-length-2 : tie.Need-same-length-2
+same-length-2 c = search needs
+
 returns : tie.Need-returns
-returns c = (replied (c .said-opening .ensures) (ap (λ (r : Opened). r .drive) (c .before .before .before .before .«open» .ensures .0)) (c .before .before .before .before .«open» .ensures .1), c .before .before .before .before .«open» .ensures .2)
+returns c =
+    let p = c .before .before .before .before .before .before .«open» .ensures in
+    (replied (c .said-opening .ensures) (ap (λ (r : Opened). r .drive) (p .0)) (p .1), p .2, p .3)
 
 pub mandrozsi-open-spec : {M : Type 1} → statement M
-mandrozsi-open-spec = tie.close (tie.spec open-requires said-opening-requires same-length returns)
+mandrozsi-open-spec = tie.close (tie.spec open-requires said-opening-requires same-length same-length-2 returns)

@@ -15,8 +15,13 @@ said-loading-requires c κs = search needs
 same-length : tie.Need-same-length
 same-length c = search needs
 
+same-length-2 : tie.Need-same-length-2
+same-length-2 c = search needs
+
 returns : tie.Need-returns
-returns c = (replied (c .said-loading .ensures) (ap (λ (r : Loaded). r .drive) (c .before .before .before .before .read .ensures .0)) (c .before .before .before .before .read .ensures .1), c .before .before .before .before .read .ensures .2)
+returns c =
+    let p = c .before .before .before .before .before .before .read .ensures in
+    (replied (c .said-loading .ensures) (ap (λ (r : Loaded). r .drive) (p .0)) (p .1), p .2, p .3)
 
 pub mandrozsi-read-spec : {M : Type 1} → statement M
-mandrozsi-read-spec = tie.close (tie.spec read-requires said-loading-requires same-length returns)
+mandrozsi-read-spec = tie.close (tie.spec read-requires said-loading-requires same-length same-length-2 returns)

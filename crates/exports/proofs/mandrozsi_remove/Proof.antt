@@ -1,6 +1,6 @@
 -- `mandrozsi_remove` meets its contract. Assumes nothing.
 use mathlib.Core.Path.{ap}
-use Rattle.calls.specs.declared.Changed.{Changed}
+use Rattle.orders.specs.declared.Ordered.{Ordered}
 use Rattle.exports.proofs.Replying.{replied}
 use borrow.Author.Needs.{needs}
 use Rattle.exports.proofs.mandrozsi_remove.Statement.{statement}
@@ -9,15 +9,19 @@ use Rattle.exports.proofs.mandrozsi_remove.Tie as tie
 remove-requires : tie.Need-remove-requires
 remove-requires c κs = search needs
 
-said-change-requires : tie.Need-said-change-requires
-said-change-requires c κs = search needs
+said-ordering-requires : tie.Need-said-ordering-requires
+said-ordering-requires c κs = search needs
 
 same-length : tie.Need-same-length
 same-length c = search needs
 
+same-length-2 : tie.Need-same-length-2
+same-length-2 c = search needs
+
 returns : tie.Need-returns
-returns c = (replied (c .said-change .ensures) (ap (λ (r : Changed). r .drive) (c .before .before .before .before .remove .ensures .0)) (c .before .before .before .before .remove .ensures .1), c .before .before .before .before .remove .ensures .2)
+returns c =
+    let p = c .before .before .before .before .before .before .remove .ensures in
+    (replied (c .said-ordering .ensures) (ap (λ (r : Ordered). r .drive) (p .0)) (p .1), p .2, p .3)
 
 pub mandrozsi-remove-spec : {M : Type 1} → statement M
-mandrozsi-remove-spec =
-    tie.close (tie.spec remove-requires said-change-requires same-length returns)
+mandrozsi-remove-spec = tie.close (tie.spec remove-requires said-ordering-requires same-length same-length-2 returns)

@@ -12,8 +12,16 @@ slot-requires c κs = search needs
 said-serving-requires : tie.Need-said-serving-requires
 said-serving-requires c κs = search needs
 
+same-length : tie.Need-same-length
+same-length c = search needs
+
+same-length-2 : tie.Need-same-length-2
+same-length-2 c = search needs
+
 returns : tie.Need-returns
-returns c = replied (c .said-serving .ensures) (ap (λ (r : Served). r .drive) (c .before .before .slot .ensures .0)) (c .before .before .slot .ensures .1)
+returns c =
+    let p = c .before .before .before .before .before .before .slot .ensures in
+    (replied (c .said-serving .ensures) (ap (λ (r : Served). r .drive) (p .0)) (p .1), p .2, p .3)
 
 pub mandrozsi-slot-spec : {M : Type 1} → statement M
-mandrozsi-slot-spec = tie.close (tie.spec slot-requires said-serving-requires returns)
+mandrozsi-slot-spec = tie.close (tie.spec slot-requires said-serving-requires same-length same-length-2 returns)

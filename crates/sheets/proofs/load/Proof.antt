@@ -1,22 +1,23 @@
--- `load` meets its contract. Assumes nothing.
-use mathlib.Core.Path.{sym, _∙_}
-use native.Mathlib.Omega.{arith}
+-- `load` meets its contract.
+-- Assumes nothing.
 use borrow.Author.Needs.{needs}
+use mathlib.Core.Path.{_≡_, sym, _∙_}
+use native.Mathlib.Omega.{arith}
 use Rattle.calls.proofs.Laws.{open-clear}
+use Rattle.calls.specs.declared.Check.the-variants.{Clear}
 use Rattle.sheets.specs.Sheet.{capacityIn}
+use Rattle.sheets.specs.Results.{startCheck}
 use Rattle.sheets.proofs.Layouts.{laid-layout}
-use Rattle.sheets.proofs.Checked.{read-short, read-unfit, read-broken, read-tested, read-kept, read-set}
+use Rattle.sheets.proofs.Checked.{start-long, start-open, read-unfit, read-broken, read-tested, read-kept, read-set}
 use Rattle.sheets.proofs.load.Statement.{statement}
 use Rattle.sheets.proofs.load.Tie as tie
 
-returns : tie.Need-returns
-returns c = read-kept _ _ _ (read-short _ _ (c .if1 .taken))
+-- the first checks are clear
+begun : (c : tie.After-enum-told) → startCheck (c .before .before .before .before .before .before .args .sheet .now) (c .before .before .before .before .before .before .args .board .now) ≡ Clear
+begun c = sym (c .before .before .check-start .ensures) ∙ c .enum-told .given .1
 
-number-at-requires : tie.Need-number-at-requires
-number-at-requires c κs = search needs
-
-check-open-requires : tie.Need-check-open-requires
-check-open-requires c κs = search needs
+check-start-requires : tie.Need-check-start-requires
+check-start-requires c κs = search needs
 
 enum-known-r : tie.Need-enum-known-r
 enum-known-r c = search needs
@@ -24,55 +25,60 @@ enum-known-r c = search needs
 enum-told : tie.Need-enum-told
 enum-told c = search needs
 
+number-at-requires : tie.Need-number-at-requires
+number-at-requires c κs = omega (arith, start-long _ _ (begun (c)))
+
 is-laid-requires : tie.Need-is-laid-requires
+unfolding capacityIn
 is-laid-requires c κs =
-    let sized = open-clear _ _ (sym (c .before .before .check-open .ensures) ∙ c .enum-told .given .1) in
-    omega arith
+    let sized = open-clear _ _ (start-open _ _ (begun (c .before))) in rw (c .number-at .ensures .0) (sized .some, sized .few)
 
 load-leaves-requires : tie.Need-load-leaves-requires
+unfolding capacityIn
 load-leaves-requires c κs =
-    let sized = open-clear _ _ (sym (c .before .before .before .before .before .check-open .ensures) ∙ c .before .before .before .enum-told .given .1) in
-    let layout = laid-layout _ _ (sym (c .before .before .is-laid .ensures) ∙ c .before .if2 .taken) in
+    let sized = open-clear _ _ (start-open _ _ (begun (c .before .before .before .before))) in
+    let is = c .before .before .before .number-at .ensures .0 in
+    let layout = laid-layout _ _ (sym (c .before .before .is-laid .ensures) ∙ c .before .if1 .taken) in
     omega arith
 
 same-length : tie.Need-same-length
 same-length c = search needs
 
-returns-2 : tie.Need-returns-2
-unfolding capacityIn
-returns-2 c = read-kept _ _ _ (read-unfit _ _ _ _ (c .before .before .before .before .before .before .if1 .left) (c .before .before .before .before .before .number-at .ensures .0) (c .before .before .before .check-open .ensures) _ (c .before .r .given .1))
+returns : tie.Need-returns
+returns c =
+    read-kept _ _ _ (read-unfit _ _ _ (c .before .before .before .check-start .ensures) _ (c .before .r .given .1))
 
 same-length-2 : tie.Need-same-length-2
 same-length-2 c = search needs
 
-returns-3 : tie.Need-returns-3
+returns-2 : tie.Need-returns-2
 unfolding capacityIn
-returns-3 c =
-    read-set _ _ _ _ _ (c .before .before .before .before .before .before .before .before .before .before .number-at .ensures .0)
-    (read-tested _ _ _ _ (c .before .before .before .before .before .before .before .before .before .before .before .if1 .left) (c .before .before .before .before .before .before .before .before .before .before .number-at .ensures .0) (c .before .before .before .before .before .before .before .before .check-open .ensures) (c .before .before .before .before .before .before .enum-told .given .1) _ (c .before .before .before .before .before .is-laid .ensures) _ (c .before .before .before .before .if2 .taken) (c .before .before .load-leaves .ensures .0))
+returns-2 c =
+    read-set _ _ _ _ _ (c .before .before .before .before .before .before .number-at .ensures .0)
+    (read-tested _ _ _ (c .before .before .before .before .before .before .before .before .before .check-start .ensures) (c .before .before .before .before .before .before .before .enum-told .given .1) _ (c .before .before .before .before .before .before .number-at .ensures .0) _ (c .before .before .before .before .before .is-laid .ensures) _ (c .before .before .before .before .if1 .taken) (c .before .before .load-leaves .ensures .0))
     (c .before .before .load-leaves .ensures .1)
 
 same-length-3 : tie.Need-same-length-3
 same-length-3 c = search needs
 
-returns-4 : tie.Need-returns-4
+returns-3 : tie.Need-returns-3
 unfolding capacityIn
-returns-4 c = read-kept _ _ _ (read-broken _ _ _ _ (c .before .before .before .before .before .before .before .if1 .left) (c .before .before .before .before .before .before .number-at .ensures .0) (c .before .before .before .before .check-open .ensures) (c .before .before .enum-told .given .1) _ (c .before .is-laid .ensures) (c .if2 .left))
+returns-3 c =
+    read-kept _ _ _ (read-broken _ _ _ (c .before .before .before .before .before .check-start .ensures) (c .before .before .before .enum-told .given .1) _ (c .before .before .number-at .ensures .0) _ (c .before .is-laid .ensures) (c .if1 .left))
 
 pub load-spec : {M : Type 1} → statement M
 load-spec =
     tie.close
     (tie.spec
-    returns
-    number-at-requires
-    check-open-requires
+    check-start-requires
     enum-known-r
     enum-told
+    number-at-requires
     is-laid-requires
     load-leaves-requires
     same-length
-    returns-2
+    returns
     same-length-2
-    returns-3
+    returns-2
     same-length-3
-    returns-4)
+    returns-3)

@@ -6,11 +6,8 @@ use Rattle.calls.proofs.Checking.{remove-parts, change-slot, slot-sized
 use Rattle.calls.proofs.Drive.check_remove.Statement.{statement}
 use Rattle.calls.proofs.Drive.check_remove.Tie as tie
 
-check-change-requires : tie.Need-check-change-requires
-check-change-requires c κs = search needs
-
-enum-known-r : tie.Need-enum-known-r
-enum-known-r c = search needs
+enum-known-found : tie.Need-enum-known-found
+enum-known-found c = search needs
 
 enum-told : tie.Need-enum-told
 enum-told c = search needs
@@ -20,25 +17,17 @@ cast-check-held c = search needs
 
 check-held-requires : tie.Need-check-held-requires
 check-held-requires c κs =
-    let s = slot-sized _ _ (change-slot _ _ (sym (c .before .before .before .check-change .ensures) ∙ c .before .enum-told .given .1)) in
+    let s = slot-sized _ _ (change-slot _ _ (sym (c .before .before .before .before .pre) ∙ c .before .enum-told .given .1)) in
     (s .long, s .few)
 
 returns : tie.Need-returns
-returns c = simp (remove-parts, sym (c .before .before .before .check-change .ensures) ∙ c .before .r .given .1)
+returns c = simp (remove-parts, sym (c .before .before .before .before .pre) ∙ c .before .found .given .1)
 
 returns-2 : tie.Need-returns-2
 returns-2 c =
-    c .check-held .ensures
-    ∙ simp (remove-parts, sym (c .before .before .before .before .check-change .ensures) ∙ c .before .before .enum-told .given .1)
+    c .check-held .ensures ∙ simp (remove-parts, sym (c .before .before .before .before .before .pre) ∙ c .before .before .enum-told .given .1)
 
 pub check-remove-spec : {M : Type 1} → statement M
 check-remove-spec =
     tie.close
-    (tie.spec
-    check-change-requires
-    enum-known-r
-    enum-told
-    cast-check-held
-    check-held-requires
-    returns
-    returns-2)
+    (tie.spec enum-known-found enum-told cast-check-held check-held-requires returns returns-2)

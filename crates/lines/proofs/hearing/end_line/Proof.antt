@@ -14,10 +14,10 @@ least-requires : tie.Need-least-requires
 least-requires c κs = search needs
 
 array-share-prefix-start : tie.Need-array-share-prefix-start
-array-share-prefix-start c = let full : length (c .before .before .before .before .before .args .s .start) ≡ keptBytes = search needs in omega (arith, c .least .ensures)
+array-share-prefix-start c = let full : length (c .before .before .before .before .before .before .args .s .start) ≡ keptBytes = search needs in omega (arith, c .least .ensures)
 
 slice-aggregate-parse : tie.Need-slice-aggregate-parse
-slice-aggregate-parse c = let full : length (c .before .before .before .before .before .before .args .s .start) ≡ keptBytes = search needs in sym (length-take-le _ _ (omega (arith, c .before .least .ensures)))
+slice-aggregate-parse c = let full : length (c .before .before .before .before .before .before .before .args .s .start) ≡ keptBytes = search needs in sym (length-take-le _ _ (omega (arith, c .before .least .ensures)))
 
 parse-requires : tie.Need-parse-requires
 parse-requires c κs = search needs
@@ -31,12 +31,18 @@ same-length c = search needs
 same-length-2 : tie.Need-same-length-2
 same-length-2 c = search needs
 
+same-length-3 : tie.Need-same-length-3
+same-length-3 c = search needs
+
+-- what is kept of a line has its place
+full : (c : tie.After-least) → length (c .before .before .before .before .before .before .args .s .start) ≡ keptBytes
+full c = search needs
+
 returns : tie.Need-returns
-returns c = let s = c .before .before .before .before .before .before .before .before .before .before .before .before .before .before .before .args .s in
-    let full : length (s .start) ≡ keptBytes = search needs in
-    ended-hears s _ _ _ _ _ _ _
-    (c .before .before .before .before .before .before .before .before .parse .ensures ∙ rw (c .before .before .before .before .before .before .before .before .before .before .least .ensures) (ap parsed (take-least (s .count) keptBytes (s .start) full)))
-    (c .before .before .before .before .before .answer .ensures)
+returns c = let s = c .before .before .before .before .before .before .before .before .before .before .before .before .before .before .before .before .before .before .before .args .s in
+    ended-hears s _ _ _ _ _ _ _ _ _
+    (c .before .before .before .before .before .before .before .before .before .before .before .parse .ensures ∙ rw (c .before .before .before .before .before .before .before .before .before .before .before .before .before .least .ensures) (ap parsed (take-least (s .count) keptBytes (s .start) (full (c .before .before .before .before .before .before .before .before .before .before .before .before .before)))))
+    (c .before .before .before .before .before .before .before .answer .ensures)
 
 pub end-line-spec : {M : Type 1} → statement M
 end-line-spec =
@@ -48,5 +54,5 @@ end-line-spec =
     parse-requires
     answer-requires
     same-length
-    same-length-2
+    same-length-2 same-length-3
     returns)

@@ -10,13 +10,13 @@ use Rattle.lines.proofs.hearing.feed.Statement.{statement}
 use Rattle.lines.proofs.hearing.feed.Tie as tie
 
 abbrev Inv-loop : tie.InvT-loop
-Inv-loop input board₀ out₀ s₀ to₀ i₀ board out s to i = (i ≤ length input) × (to ≤ length out₀) × (length board ≡ length board₀) × (length out ≡ length out₀) × (out ≡ sets out₀ 0 (take to out)) × (talked (length out₀) (begun s₀ board₀) input ≡ talked (length out₀) (talkAt s board out to i) (drop i input))
+Inv-loop input board₀ list₀ out₀ s₀ to₀ i₀ board list out s to i = (i ≤ length input) × (to ≤ length out₀) × (length board ≡ length board₀) × (length list ≡ length list₀) × (length out ≡ length out₀) × (out ≡ sets out₀ 0 (take to out)) × (talked (length out₀) (begun s₀ board₀ list₀) input ≡ talked (length out₀) (talkAt s board list out to i) (drop i input))
 
 abbrev μ-loop : tie.MeasureT-loop
-μ-loop input board₀ out₀ s₀ to₀ i₀ board out s to i = length input - i
+μ-loop input board₀ list₀ out₀ s₀ to₀ i₀ board list out s to i = length input - i
 
 loop-holds : tie.Need-loop-holds Inv-loop μ-loop
-loop-holds c = (omega arith, omega arith, refl, refl, refl, refl)
+loop-holds c = (omega arith, omega arith, refl, refl, refl, refl, refl)
 
 add-if1 : tie.Need-add-if1 Inv-loop μ-loop
 add-if1 c = omega arith
@@ -27,11 +27,14 @@ same-length c = omega arith
 same-length-2 : tie.Need-same-length-2 Inv-loop μ-loop
 same-length-2 c = omega arith
 
+same-length-3 : tie.Need-same-length-3 Inv-loop μ-loop
+same-length-3 c = omega arith
+
 returns : tie.Need-returns Inv-loop μ-loop
-returns c = let a = c .before .before .before .before .before .before .args in
+returns c = let a = c .before .before .before .before .before .before .before .args in
     let l = c .before .before .loop in
-    let is = l .inv .5 ∙ talk-stops (a .input .now) (l .i) (omega arith) (l .s) (l .board) (l .out) (l .to) (omega arith) (length (a .out .now)) (omega arith) in
-    answered _ _ _ _ _ _ _ _ _ is (omega arith) (l .inv .4) (omega arith)
+    let is = l .inv .6 ∙ talk-stops (a .input .now) (l .i) (omega arith) (l .s) (l .board) (l .list) (l .out) (l .to) (omega arith) (length (a .out .now)) (omega arith) in
+    answered _ _ _ _ _ _ _ _ _ _ _ is (omega arith) (l .inv .5) (omega arith)
 
 shared-slice-read-hear : tie.Need-shared-slice-read-hear Inv-loop μ-loop
 shared-slice-read-hear c = omega arith
@@ -46,29 +49,36 @@ loop-less : tie.Need-loop-less Inv-loop μ-loop
 loop-less c = omega arith
 
 loop-again : tie.Need-loop-again Inv-loop μ-loop
-loop-again c = let a = c .before .before .before .before .before .before .before .before .before .before .before .before .before .before .before .args in
-    let l = c .before .before .before .before .before .before .before .before .before .before .before .loop in
-    let h = c .before .before .before .before .before .hear in
+loop-again c = let a = c .before .before .before .before .before .before .before .before .before .before .before .before .before .before .before .before .before .before .before .args in
+    let l = c .before .before .before .before .before .before .before .before .before .before .before .before .before .before .loop in
+    let h = c .before .before .before .before .before .before .before .hear in
+    let B = h .last .1 .1 .0 in
+    let W = h .last .1 .1 .1 .0 in
+    let O = h .last .1 .1 .1 .1 .0 in
     let more : l .to + 24573 ≤ length (l .out) = omega arith in (
       omega arith,
       omega (arith, h .ensures .within),
       omega (arith, h .kept .1 .1 .0),
       omega (arith, h .kept .1 .1 .1 .0),
-      bytes-go (a .input .now) (l .i) (omega arith) (l .s) (l .board) (l .out) (l .to) (omega arith) (h .result) (h .last .1 .1 .0) (h .last .1 .1 .1 .0) more (h .ensures) (a .out .now) (l .inv .4),
-      l .inv .5 ∙ talk-goes (a .input .now) (l .i) (omega arith) (l .s) (l .board) (l .out) (l .to) (omega arith) (h .result) (h .last .1 .1 .0) (h .last .1 .1 .1 .0) more (h .ensures) (length (a .out .now)) (omega arith),
+      omega (arith, h .kept .1 .1 .1 .1 .0),
+      bytes-go (a .input .now) (l .i) (omega arith) (l .s) (l .board) (l .list) (l .out) (l .to) (omega arith) (h .result) B W O more (h .ensures) (a .out .now) (l .inv .5),
+      l .inv .6 ∙ talk-goes (a .input .now) (l .i) (omega arith) (l .s) (l .board) (l .list) (l .out) (l .to) (omega arith) (h .result) B W O more (h .ensures) (length (a .out .now)) (omega arith),
     )
-
-same-length-3 : tie.Need-same-length-3 Inv-loop μ-loop
-same-length-3 c = omega arith
 
 same-length-4 : tie.Need-same-length-4 Inv-loop μ-loop
 same-length-4 c = omega arith
 
+same-length-5 : tie.Need-same-length-5 Inv-loop μ-loop
+same-length-5 c = omega arith
+
+same-length-6 : tie.Need-same-length-6 Inv-loop μ-loop
+same-length-6 c = omega arith
+
 returns-2 : tie.Need-returns-2 Inv-loop μ-loop
-returns-2 c = let a = c .before .before .before .before .before .args in
+returns-2 c = let a = c .before .before .before .before .before .before .args in
     let l = c .before .loop in
-    let is = l .inv .5 ∙ talk-end (length (a .out .now)) (talkAt (l .s) (l .board) (l .out) (l .to) (l .i)) (a .input .now) (l .i) (omega arith) in
-    answered _ _ _ _ _ _ _ _ _ is (omega arith) (l .inv .4) (omega arith)
+    let is = l .inv .6 ∙ talk-end (length (a .out .now)) (talkAt (l .s) (l .board) (l .list) (l .out) (l .to) (l .i)) (a .input .now) (l .i) (omega arith) in
+    answered _ _ _ _ _ _ _ _ _ _ _ is (omega arith) (l .inv .5) (omega arith)
 
 pub feed-spec : {M : Type 1} → statement M
 feed-spec =
@@ -80,12 +90,14 @@ feed-spec =
     add-if1
     same-length
     same-length-2
+    same-length-3
     returns
     shared-slice-read-hear
     hear-requires
     add-i
     loop-less
     loop-again
-    same-length-3
     same-length-4
+    same-length-5
+    same-length-6
     returns-2)

@@ -16,16 +16,19 @@ same-length c = search needs
 same-length-2 : tie.Need-same-length-2
 same-length-2 c = search needs
 
+same-length-3 : tie.Need-same-length-3
+same-length-3 c = search needs
+
 returns : tie.Need-returns
-returns c = rw (eq-eqb _ _ (c .before .before .before .before .before .before .before .if1 .taken)) (c .before .before .before .before .end-line .ensures)
+returns c = rw (eq-eqb _ _ (c .before .before .before .before .before .before .before .before .before .before .if1 .taken)) (c .before .before .before .before .before .before .end-line .ensures)
 
 kept-requires : tie.Need-kept-requires
 kept-requires c κs = search needs
 
 returns-2 : tie.Need-returns-2
-returns-2 c = rw (ne-eqb _ _ (c .before .if1 .left)) (record { handed = rw (c .kept .ensures, add-zero) refl; leaves = refl; bytes = refl; within = omega arith })
+returns-2 c = rw (ne-eqb _ _ (c .before .if1 .left)) (record { handed = rw (c .kept .ensures, add-zero) refl; leaves = refl; waits = refl; bytes = refl; within = omega arith })
 
 pub hear-spec : {M : Type 1} → statement M
 hear-spec =
     tie.close
-    (tie.spec end-line-requires same-length same-length-2 returns kept-requires returns-2)
+    (tie.spec end-line-requires same-length same-length-2 same-length-3 returns kept-requires returns-2)

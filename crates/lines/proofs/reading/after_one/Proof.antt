@@ -3,7 +3,7 @@ use mathlib.Core.Path.{sym, _∙_}
 use native.Mathlib.Omega.{arith}
 use lib.Seq.{length-take-le}
 use borrow.Author.Needs.{needs}
-use Rattle.lines.proofs.Commands.{command-more, command-two}
+use Rattle.lines.proofs.Commands.{command-more, command-fetch, command-two}
 use Rattle.lines.proofs.reading.after_one.Statement.{statement}
 use Rattle.lines.proofs.reading.after_one.Tie as tie
 
@@ -31,11 +31,23 @@ after-two-requires c κs = search needs
 returns : tie.Need-returns
 returns c = c .after-two .ensures ∙ command-more (c .before .before .before .before .before .before .before .args .rest .now) (c .before .before .before .before .find .result) (c .before .before .before .before .find .ensures) (omega arith) (c .before .before .before .before .before .before .before .args .word .now)
 
+slice-aggregate-same : tie.Need-slice-aggregate-same
+slice-aggregate-same c = search needs
+
+same-requires : tie.Need-same-requires
+same-requires c κs = search needs
+
+with-ticket-requires : tie.Need-with-ticket-requires
+with-ticket-requires c κs = search needs
+
+returns-2 : tie.Need-returns-2
+returns-2 c = c .with-ticket .ensures ∙ sym (command-fetch _ (c .before .before .before .before .before .before .before .before .args .rest .now) (omega (arith, c .before .before .before .before .before .find .ensures)) (sym (c .before .before .same .ensures) ∙ c .before .if2 .taken))
+
 with-one-requires : tie.Need-with-one-requires
 with-one-requires c κs = search needs
 
-returns-2 : tie.Need-returns-2
-returns-2 c = c .with-one .ensures ∙ sym (command-two _ (c .before .before .before .before .before .args .rest .now) (omega (arith, c .before .before .find .ensures)))
+returns-3 : tie.Need-returns-3
+returns-3 c = c .with-one .ensures ∙ sym (command-two _ (c .before .before .before .before .before .before .before .before .args .rest .now) (omega (arith, c .before .before .before .before .before .find .ensures)) (sym (c .before .before .same .ensures) ∙ c .before .if2 .left))
 
 pub after-one-spec : {M : Type 1} → statement M
 after-one-spec =
@@ -49,5 +61,9 @@ after-one-spec =
     part-after-two-end
     after-two-requires
     returns
+    slice-aggregate-same
+    same-requires
+    with-ticket-requires
+    returns-2
     with-one-requires
-    returns-2)
+    returns-3)

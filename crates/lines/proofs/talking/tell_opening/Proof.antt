@@ -8,11 +8,8 @@ use Rattle.lines.proofs.talking.tell_opening.Tie as tie
 enum-told : tie.Need-enum-told
 enum-told c = search needs
 
-slice-aggregate-put-line : tie.Need-slice-aggregate-put-line
-slice-aggregate-put-line c = search needs
-
-put-line-requires : tie.Need-put-line-requires
-put-line-requires c κs = search needs
+put-alone-requires : tie.Need-put-alone-requires
+put-alone-requires c κs = search needs
 
 enum-known-answer : tie.Need-enum-known-answer
 enum-known-answer c = search needs
@@ -24,7 +21,7 @@ same-length : tie.Need-same-length
 same-length c = search needs
 
 returns : tie.Need-returns
-returns c = rw (c .before .before .before .before .before .enum-told .given .1) (told _ _ _ _ _ _ _ _ (c .before .before .put-line .ensures) (omega arith))
+returns c = rw (c .before .before .before .before .enum-told .given .1) (told _ _ _ _ _ _ _ _ (c .before .before .put-alone .ensures) (omega arith))
 
 same-length-2 : tie.Need-same-length-2
 same-length-2 c = search needs
@@ -37,8 +34,7 @@ tell-opening-spec =
     tie.close
     (tie.spec
     enum-told
-    slice-aggregate-put-line
-    put-line-requires
+    put-alone-requires
     enum-known-answer
     tell-refusal-requires
     same-length

@@ -4,7 +4,7 @@ use mathlib.Core.Path.{sym, _∙_}
 use native.Mathlib.Omega.{arith}
 use lib.Seq.{length-take-le}
 use borrow.Author.Needs.{needs}
-use Rattle.lines.specs.Replies.{reply}
+use Rattle.lines.specs.Replies.{roundLine}
 use Rattle.lines.proofs.Names.{Named, answer-is, named}
 use Rattle.lines.proofs.Telling.{told}
 use Rattle.lines.proofs.talking.tell_round.Statement.{statement}
@@ -57,7 +57,7 @@ same-length : tie.Need-same-length
 same-length c = search needs
 
 returns : tie.Need-returns
-unfolding reply
+unfolding roundLine
 returns c = let n = is-named (c .before .before .before .before .before .before) in
     rw (n .done, ← n .names) (told _ _ _ _ _ _ _ _ (c .before .before .put-line .ensures) (rw (length-take-le _ _ (n .within)) (omega (arith, n .fit))))
 
@@ -65,7 +65,7 @@ same-length-2 : tie.Need-same-length-2
 same-length-2 c = search needs
 
 returns-2 : tie.Need-returns-2
-unfolding reply
+unfolding roundLine
 returns-2 c = let a = c .before .before .before .before .before .before .before .before .before .before .before .before .before .args in
     let r = c .before .before .before .before .before .before .before .before .round in
     let o = c .before .before .before .before .before .before .before .before .before .before .no-names in

@@ -8,19 +8,19 @@ use Rattle.lines.proofs.writing.put_value.Statement.{statement}
 use Rattle.lines.proofs.writing.put_value.Tie as tie
 
 put-number-requires : tie.Need-put-number-requires
-put-number-requires c κs = omega (arith, decimal-length 1 (c .before .before .args .number) (omega arith))
+put-number-requires c κs = omega (arith, decimal-length 19 (c .before .before .args .number) (omega arith))
 
 put-field-requires : tie.Need-put-field-requires
 put-field-requires c κs = let a = c .before .before .before .before .before .before .args in
-    omega (arith, c .before .before .before .put-number .kept .0, c .before .before .before .put-number .ensures .0, decimal-length 1 (a .number) (omega arith), field-length 19 (a .value) (omega arith))
+    omega (arith, c .before .before .before .put-number .kept .0, c .before .before .before .put-number .ensures .0, decimal-length 19 (a .number) (omega arith), field-length 19 (a .value) (omega arith))
 
 slice-write-out : tie.Need-slice-write-out
 slice-write-out c = let a = c .before .before .before .before .before .before .before .before .before .args in
-    omega (arith, c .before .before .put-field .kept .0, c .before .before .before .before .before .before .put-number .kept .0, c .before .before .before .before .before .before .put-number .ensures .0, c .before .before .put-field .ensures .0, decimal-length 1 (a .number) (omega arith), field-length 19 (a .value) (omega arith))
+    omega (arith, c .before .before .put-field .kept .0, c .before .before .before .before .before .before .put-number .kept .0, c .before .before .before .before .before .before .put-number .ensures .0, c .before .before .put-field .ensures .0, decimal-length 19 (a .number) (omega arith), field-length 19 (a .value) (omega arith))
 
 add-result : tie.Need-add-result
 add-result c = let a = c .before .before .before .before .before .before .before .before .before .args in
-    omega (arith, c .before .before .before .before .before .before .put-number .ensures .0, c .before .before .put-field .ensures .0, decimal-length 1 (a .number) (omega arith), field-length 19 (a .value) (omega arith))
+    omega (arith, c .before .before .before .before .before .before .put-number .ensures .0, c .before .before .put-field .ensures .0, decimal-length 19 (a .number) (omega arith), field-length 19 (a .value) (omega arith))
 
 same-length : tie.Need-same-length
 same-length c = simp length-set (omega (arith, c .before .before .put-field .kept .0, c .before .before .before .before .before .before .put-number .kept .0))
@@ -32,7 +32,7 @@ returns c = let a = c .before .before .before .before .before .before .before .b
     let one = fields-one (a .value) in (
       omega (arith, n .0, f .0, ap length one, line-length (a .number) (a .value ∷ [])),
       rw (f .1, f .0, n .1, n .0, ← one) (line-put (a .out .now) (a .at) (a .number) (a .value ∷ [])),
-      omega (arith, n .0, f .0, decimal-length 1 (a .number) (omega arith), field-length 19 (a .value) (omega arith)),
+      omega (arith, n .0, f .0, decimal-length 19 (a .number) (omega arith), field-length 19 (a .value) (omega arith)),
     )
 
 pub put-value-spec : {M : Type 1} → statement M

@@ -1,0 +1,198 @@
+-- The demands as request No. 2 amends them, each by its name. Demand 1, tickets and what becomes of an order hold for every call and every input; demand 3 for every
+-- history of calls with the waiting list, refused or not, opens and reads among them, from any desk with a good board.
+-- Assumes nothing.
+use mathlib.Core.Path.{_≡_, refl, sym, ap, subst, _∙_}
+use mathlib.Core.Bool.{true, false, cond}
+use mathlib.Core.List.{List, [], _∷_}
+use Prim.Native.Nat.{ℕ, zero, _+_, _-_, _*_, _≤_, _<_}
+use native.Mathlib.Omega.{arith}
+use lib.Count.{ones}
+use lib.Dec.{eqb, ltb}
+use lib.ListN.{length, getD, replicate}
+use Rattle.pieces.specs.Board.{weight, number}
+use Rattle.pieces.proofs.Laws.{pieces-ones}
+use Rattle.calls.specs.declared.Check.the-variants.{Clear}
+use Rattle.calls.specs.Refusals.{firstOf, askedAdd}
+use Rattle.calls.specs.Results.{slotNames, roundNames}
+use Rattle.calls.proofs.Laws.{by-bool}
+use Rattle.demands.specs.Histories.{Act, Add, Remove, State, after, log}
+use Rattle.demands.specs.Refusing.{otherChecks}
+use Rattle.demands.specs.Holdings.{Stream, heldFrom, heldOf, total}
+use Rattle.demands.specs.Rounds.{times, inARow, Near, bound, demanded}
+use Rattle.demands.proofs.Laws.{Sound, reached, moves, never-damaged, room, room-told, others-pass, full-names, served-round, served-fair}
+use Rattle.waiting.specs.declared.Order.{Order}
+use Rattle.waiting.specs.Layout.{lastTicket, placesIn, waiting}
+use Rattle.waiting.specs.Meaning.{InOrder}
+use Rattle.waiting.proofs.Laws.{free-in-order}
+use Rattle.orders.specs.declared.Way.the-variants as way
+use Rattle.orders.specs.Results.{addOrder, removeOrder, carriedAnswer, boardThen}
+use Rattle.amended.specs.Carried.{actsOf, inTurn}
+use Rattle.amended.specs.Deeds.{Deed, Adds, Removes, Slots, Fetches, Desk, wayAt, answers, leaves, leavesAll, restarts, plain, namesServed, FullRound, ticketsTold, CountUp}
+use Rattle.amended.specs.Fates.{Waits, toldOf, fateThrough}
+use Rattle.amended.specs.Holding.{onBoard, heldThrough, heldThen, Ready}
+use Rattle.amended.specs.Refusing.{ofBoard}
+use Rattle.amended.proofs.Carrying.{add-says}
+use Rattle.amended.proofs.Projection.{ranState, add-made}
+use Rattle.amended.proofs.Sounding.{Standing, standing, restart-ready}
+use Rattle.amended.proofs.Damaging.{undamaged}
+use Rattle.amended.proofs.Listing.{count-up, up-rising, in-order, followed, taken-follows, add-thirteen, remove-thirteen}
+use Rattle.amended.proofs.Rounding.{slot-served, ran-sound, slots-full, round-names, plain-round}
+-- ---- Demand 1: what a call that is not done answers, and that it changes nothing but for what 10 and 13 say, and a change's 13 puts on the list
+
+pub use Rattle.amended.proofs.Answering.{demand-1-amended}
+
+-- ---- Tickets: those that calls tell count up, whatever calls stand between them, opens and reads too; so from a list with no ticket given yet they are 1, 2, 3 and so on
+
+pub amended-tickets : (s : Desk) (deeds : List Deed) → 259 ≤ length (s .list) → CountUp (lastTicket (s .list)) (ticketsTold s deeds)
+amended-tickets = count-up
+
+-- and none is told twice: each is above all that were told before it.
+pub tickets-above : (n : ℕ) (ts : List ℕ) → CountUp n ts → (i j : ℕ) → i < j → j < length ts → getD ts i 0 < getD ts j 0
+tickets-above = up-rising
+
+-- ---- What becomes of an order: at any time after it was taken, a fetch of its ticket says what its fate is. It waits (13); from the first slot that runs the list on
+-- it has the answer that the call made at once gives in its turn, when the orders ahead of it are carried out; that is fetched once, and then, or once an open
+-- or a read is done, the ticket is not known (15).
+
+module _ (s : Desk) (is : InOrder (s .list)) where
+  pub amended-add-fetched : (x w : ℕ) → x < 65536 → w < 65536 → answers (Adds x w) s .number ≡ 13 → (between : List Deed)
+      → let t = lastTicket (s .list) + 1 in
+      answers (Fetches t) (leavesAll (leaves (Adds x w) s) between) ≡ toldOf t (fateThrough t (addOrder x w) (waiting (s .list)) Waits (leaves (Adds x w) s) between)
+  amended-add-fetched x w a b h between =
+      let t = lastTicket (s .list) + 1 in
+      let k = add-thirteen s x w h in
+      followed t (addOrder x w) (waiting (s .list)) Waits (leaves (Adds x w) s)
+      (taken-follows s (addOrder x w) (leaves (Adds x w) s) is (record { kind = omega arith; name = a; weight = b }) (k .1) (rw (k .0) refl)) between
+
+  pub amended-remove-fetched : (x : ℕ) → x < 65536 → answers (Removes x) s .number ≡ 13 → (between : List Deed)
+      → let t = lastTicket (s .list) + 1 in
+      answers (Fetches t) (leavesAll (leaves (Removes x) s) between) ≡ toldOf t (fateThrough t (removeOrder x) (waiting (s .list)) Waits (leaves (Removes x) s) between)
+  amended-remove-fetched x a h between =
+      let t = lastTicket (s .list) + 1 in
+      let k = remove-thirteen s x h in
+      followed t (removeOrder x) (waiting (s .list)) Waits (leaves (Removes x) s)
+      (taken-follows s (removeOrder x) (leaves (Removes x) s) is (record { kind = omega arith; name = a; weight = omega arith }) (k .1) (rw (k .0) refl)) between
+
+-- The list is in order: a list with no place taken is, and calls keep it so.
+pub amended-in-order : (s : Desk) → InOrder (s .list) → (deeds : List Deed) → InOrder (leavesAll s deeds .list)
+amended-in-order = in-order
+
+pub amended-empty : (L : List ℕ) → 259 ≤ length L → placesIn L ≡ 0 → InOrder L
+amended-empty = free-in-order
+
+-- ---- Demand 3: a stream is held from the moment its add is carried out until its remove is
+
+-- Every open and every read that is done, on any desk with a list, leaves one that a history may begin with.
+pub amended-ready : (a : Deed) (s : Desk) → 259 ≤ length (s .list) → restarts a s ≡ true → Ready (leaves a s)
+amended-ready = restart-ready
+
+module _ (s : Desk) (ready : Ready s) (deeds : List Deed) where
+  -- where the calls lead, and what is then held
+  abbrev pub desk' : Desk
+  desk' = leavesAll s deeds
+
+  abbrev pub held' : List Stream
+  held' = heldThrough (onBoard (s .state)) s deeds
+
+  abbrev C : ℕ
+  C = desk' .state .drive .capacity
+
+  st : Standing held' desk'
+  st = standing s ready deeds
+
+  -- No slot is refused.
+  pub amended-slot : answers Slots desk' .number ≡ 0
+  amended-slot = slot-served held' desk' st
+
+  -- No answer is DAMAGED: of read, whose 5 is of the sheet's board, and of fetch, which hands out what was answered before, see `amended-carried`.
+  pub amended-undamaged : (a : Deed) → ofBoard a ≡ true → answers a desk' .number ≡ 5 → ⊥
+  amended-undamaged = undamaged held' desk' st
+
+  -- What is held of a name is the number of its leaves, in as many pieces as that has ones; and the weights held are never more than C.
+  pub amended-held : (x : ℕ) → (x ≡ 0 → ⊥) → heldOf x held' ≡ weight C (desk' .state .board) x
+  amended-held x named = sym (st .sound .names x named)
+
+  pub amended-pieces : (x : ℕ) → (x ≡ 0 → ⊥) → number C (desk' .state .board) x ≡ ones (heldOf x held')
+  amended-pieces x named =
+      pieces-ones C (desk' .state .board) x (let f = st .sound .valid .at .few in omega arith) (st .sound .fine) ∙ ap ones (sym (amended-held x named))
+
+  pub amended-within : total held' ≤ C
+  amended-within = let i = st .sound .idle in omega arith
+
+  -- ---- an add when it is carried out, the orders ahead of it being carried out before: from the list, or at once, with none ahead
+
+  module _ (ahead : List Order) where
+    -- the record and the board in its turn, and what is then held
+    abbrev pub turn : State
+    turn = after (desk' .state) (actsOf ahead)
+
+    abbrev pub heldInTurn : List Stream
+    heldInTurn = heldFrom held' (log (desk' .state) (actsOf ahead))
+
+    turn-sound : Sound turn heldInTurn
+    turn-sound = reached (desk' .state) held' (st .sound) (actsOf ahead)
+
+    -- It passes the checks beside ROOM if a round begins, it has a name and a weight, and nothing is held of the name;
+    pub amended-others : (x w : ℕ) → turn .drive .position ≡ 1 → (x ≡ 0 → ⊥) → (w ≡ 0 → ⊥) → heldOf x heldInTurn ≡ 0
+        → firstOf otherChecks (askedAdd (turn .drive) (turn .board) x w) ≡ Clear
+    amended-others = others-pass turn heldInTurn turn-sound
+
+    -- and then it is refused for ROOM exactly when its weight exceeds C less the sum of the weights held, and else it is done. Refused so, it says that number.
+    pub amended-room : (x w : ℕ) → firstOf otherChecks (askedAdd (turn .drive) (turn .board) x w) ≡ Clear
+        → (inTurn (desk' .state) ahead (addOrder x w) .number ≡ cond (ltb (C - total heldInTurn) w) 10 0)
+        × (inTurn (desk' .state) ahead (addOrder x w) .number ≡ 10 → inTurn (desk' .state) ahead (addOrder x w) .values ≡ (C - total heldInTurn) ∷ [])
+    unfolding carriedAnswer
+    amended-room x w e =
+        let c = moves (desk' .state) (actsOf ahead) .0 in (
+          room turn heldInTurn turn-sound x w e ∙ ap (λ (n : ℕ). cond (ltb (n - total heldInTurn) w) 10 0) c,
+          λ full. room-told turn heldInTurn turn-sound x w full ∙ ap (λ (n : ℕ). (n - total heldInTurn) ∷ []) c,
+        )
+
+    -- No order is answered DAMAGED.
+    pub amended-carried : (o : Order) → inTurn (desk' .state) ahead o .number ≡ 5 → ⊥
+    unfolding carriedAnswer
+    amended-carried o h = by-bool (eqb (o .kind) 1)
+        (λ t. never-damaged turn heldInTurn turn-sound (Add (o .name) (o .weight)) (rw t at h))
+        (λ f. by-bool (eqb (o .kind) 2)
+        (λ t. never-damaged turn heldInTurn turn-sound (Remove (o .name)) (rw (f, t) at h))
+        (λ n. let z = rw (f, n) at h in omega arith))
+
+  -- An add that is made at once is answered so, with none ahead of it.
+  pub amended-at-once : (x w : ℕ) → wayAt (addOrder x w) desk' ≡ way.Now → answers (Adds x w) desk' ≡ inTurn (desk' .state) [] (addOrder x w)
+  unfolding actsOf after
+  amended-at-once x w e = add-made desk' x w e ∙ sym (add-says (desk' .state) x w)
+
+  -- ---- rounds
+
+  -- At the start of a round the next C slots are a full round.
+  pub amended-full : desk' .state .drive .position ≡ 1 → FullRound desk' (replicate (C - 1) Slots)
+  amended-full = slots-full held' desk' st
+
+  module _ (rest : List Deed) (full : FullRound desk' rest) where
+    abbrev later : List Act
+    later = plain (leaves Slots desk') rest
+
+    -- A full round serves the names that round would write once the list has run: the first slot is picked after that.
+    pub amended-order : namesServed desk' (Slots ∷ rest) ≡ roundNames C (boardThen (desk' .state .drive) (desk' .state .board) (desk' .list))
+    unfolding slotNames
+    amended-order =
+        round-names held' desk' st rest full
+        ∙ full-names (ranState desk') later (ran-sound held' desk' st .valid) (plain-round held' desk' st rest full)
+
+    -- In it a name is served as often as the weight that it holds once the list has run.
+    pub amended-round : (x : ℕ) → (x ≡ 0 → ⊥) → times x (namesServed desk' (Slots ∷ rest)) ≡ heldOf x (heldThen held' desk')
+    amended-round x named =
+        ap (times x) (round-names held' desk' st rest full)
+        ∙ served-round (ranState desk') (heldThen held' desk') (ran-sound held' desk' st) later (plain-round held' desk' st rest full) x named
+
+    -- In any t successive slots of it a stream of weight w is served s times, and C s and w t differ by less than m C + w h,
+    pub amended-fair : (x w i t : ℕ) → heldOf x (heldThen held' desk') ≡ w → zero < w → i + t ≤ C
+        → Near (C * times x (inARow i t (namesServed desk' (Slots ∷ rest)))) (w * t) (bound C w)
+    amended-fair x w i t h some within =
+        rw (round-names held' desk' st rest full)
+        (served-fair (ranState desk') (heldThen held' desk') (ran-sound held' desk' st) later (plain-round held' desk' st rest full) x w i t h some within)
+
+    -- so by less than the demand's own 2 m C + w h.
+    pub amended-demanded : (x w i t : ℕ) → heldOf x (heldThen held' desk') ≡ w → zero < w → i + t ≤ C
+        → Near (C * times x (inARow i t (namesServed desk' (Slots ∷ rest)))) (w * t) (demanded C w)
+    amended-demanded x w i t h some within = let f = amended-fair x w i t h some within in omega arith

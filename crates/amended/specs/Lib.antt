@@ -1,0 +1,6 @@
+pub mod Histories
+pub mod Carried
+pub mod Deeds
+pub mod Holding
+pub mod Refusing
+pub mod Fates

@@ -1,0 +1,6 @@
+// Changes while a round runs: orders that wait, their answers fetched, 64 places, lines that are no fetch.
+fn main() {
+    let mut board = [0; 4095];
+    let mut list = [0u64; 259];
+    desk::serve(&mut board, &mut list);
+}

@@ -1,0 +1,35 @@
+-- `orders::check_lent` meets its contract.
+-- Assumes nothing.
+use borrow.Author.Needs.{needs}
+use borrow.Author.Tests.{lt-ltb, le-ltb}
+use mathlib.Core.Path.{sym, _∙_}
+use Rattle.orders.specs.Checks.{lentCheck}
+use Rattle.orders.proofs.check_lent.Statement.{statement}
+use Rattle.orders.proofs.check_lent.Tie as tie
+
+check-open-requires : tie.Need-check-open-requires
+check-open-requires c κs = search needs
+
+enum-known-r : tie.Need-enum-known-r
+enum-known-r c = search needs
+
+enum-told : tie.Need-enum-told
+enum-told c = search needs
+
+returns : tie.Need-returns
+unfolding lentCheck
+returns c = simp (sym (c .before .before .before .check-open .ensures) ∙ c .before .r .given .1)
+
+returns-2 : tie.Need-returns-2
+unfolding lentCheck
+returns-2 c =
+    simp (sym (c .before .before .before .check-open .ensures) ∙ c .before .enum-told .given .1, lt-ltb _ _ (c .if1 .taken))
+
+returns-3 : tie.Need-returns-3
+unfolding lentCheck
+returns-3 c =
+    simp (sym (c .before .before .before .check-open .ensures) ∙ c .before .enum-told .given .1, le-ltb _ _ (c .if1 .left))
+
+pub check-lent-spec : {M : Type 1} → statement M
+check-lent-spec =
+    tie.close (tie.spec check-open-requires enum-known-r enum-told returns returns-2 returns-3)

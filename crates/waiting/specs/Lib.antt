@@ -1,0 +1,5 @@
+pub mod Layout
+pub mod Carrying
+pub mod Meaning
+pub mod Fates
+pub mod Promises
