@@ -1,4 +1,4 @@
-/* The slot board of one tape drive. Link target/staticlib/libexports.a (x86-64).
+/* The slot board of one tape drive, or of two that share it. Link target/staticlib/libexports.a (x86-64).
  *
  * A board is an array of 16-bit numbers that the caller keeps and lends; its first C entries are the leaves. A leaf holds 0 (idle) or a
  * stream's name. No function keeps a pointer, allocates, or has state of its own. A pointer goes with the number of elements behind it and
@@ -61,8 +61,8 @@ enum mandrozsi_number {
     MANDROZSI_DONE = 0,
     MANDROZSI_CAPACITY = 1,  /* C is 0 or above 4,095 */
     MANDROZSI_SHORT = 2,     /* the board has fewer than C entries, or the list fewer than MANDROZSI_LIST numbers */
-    MANDROZSI_POSITION = 3,  /* p is 0 or above 2^k - 1 */
-    MANDROZSI_MIDROUND = 4,  /* p is not 1 (save) */
+    MANDROZSI_POSITION = 3,  /* p is 0 or above 2^k - 1; of two drives also: their capacities differ */
+    MANDROZSI_MIDROUND = 4,  /* p is not 1 (save), of two drives that of either */
     MANDROZSI_DAMAGED = 5,   /* the board is not good: two pieces of one name, or two idle ones, have equal size */
     MANDROZSI_NAME = 6,      /* the name is 0 */
     MANDROZSI_WEIGHT = 7,    /* the weight is 0 */
@@ -117,6 +117,27 @@ mandrozsi_reply mandrozsi_read(const uint8_t *sheet, size_t length, uint16_t *bo
  * ticket is known no longer. It looks at nothing but the list.
  * 13, first = the ticket: the order waits. 15: no such ticket, or a list that is too short. */
 mandrozsi_said mandrozsi_fetch(uint64_t *list, size_t numbers, uint64_t ticket);
+
+/* Two drives on one board. They share board and list; each has its own record, with its own position and round number. `own` is the record of the
+ * drive that a call is for, and comes back; `other` is that of the other drive as its last call returned it, and is only looked at. mandrozsi_open
+ * and mandrozsi_read give the record that both drives start with, and mandrozsi_fetch is the same for both.
+ *
+ * Each call is that of one drive, with these differences. A change is made at once only where both records are at p = 1 and no order waits, and the
+ * orders that wait are carried out by the slot call, of either drive, that finds both there. 1 and 3 are for either record, 2 goes by the larger C
+ * and comes before 3, and unequal capacities are 3. Save is 4 where either drive is away from p = 1.
+ *
+ * Drives that run out of step may never both be at p = 1: then the orders wait on, and once 64 places are taken a change is 14. Hold the drive that
+ * is first at p = 1 back until the other is there too. With one record in both places each call is that of one drive. */
+mandrozsi_reply mandrozsi_pair_add(mandrozsi_drive own, mandrozsi_drive other, uint16_t *board, size_t entries, uint64_t *list, size_t numbers,
+                                   uint16_t name, uint16_t weight);
+mandrozsi_reply mandrozsi_pair_remove(mandrozsi_drive own, mandrozsi_drive other, uint16_t *board, size_t entries, uint64_t *list,
+                                      size_t numbers, uint16_t name);
+mandrozsi_reply mandrozsi_pair_slot(mandrozsi_drive own, mandrozsi_drive other, uint16_t *board, size_t entries, uint64_t *list, size_t numbers);
+mandrozsi_reply mandrozsi_pair_round(mandrozsi_drive own, mandrozsi_drive other, const uint16_t *board, size_t entries, uint16_t *output,
+                                     size_t length);
+mandrozsi_reply mandrozsi_pair_report(mandrozsi_drive own, mandrozsi_drive other, const uint16_t *board, size_t entries, uint16_t name);
+mandrozsi_reply mandrozsi_pair_save(mandrozsi_drive own, mandrozsi_drive other, const uint16_t *board, size_t entries, uint8_t *output,
+                                    size_t length);
 
 #ifdef __cplusplus
 }

@@ -19,13 +19,15 @@
 enum { ROOM = 65536, MARKED = 64, MARK = 0xA5 };
 
 enum { OPEN, ADD, REMOVE, SLOT, ROUND, REPORT, SAVE, READ, FETCH };
+enum { PAIR_ADD = 9, PAIR_REMOVE, PAIR_SLOT, PAIR_ROUND, PAIR_REPORT, PAIR_SAVE };
 
-/* What is called, with what; the bytes of the three slices, 0 where the call has none; and the record, or the ticket in place of its round. */
+/* What is called, with what; the bytes of the three slices, 0 where the call has none; and the record, or the ticket in place of its round, and that
+ * of the other drive. */
 struct call {
-    uint16_t number, name, weight, board_bytes, list_bytes, other_bytes, capacity, position;
-    uint64_t round;
+    uint16_t number, name, weight, board_bytes, list_bytes, other_bytes, capacity, position, other_capacity, other_position, unused[2];
+    uint64_t round, other_round;
 };
-_Static_assert(sizeof(struct call) == 24, "a call is eight 16-bit numbers and one of 64 bits");
+_Static_assert(sizeof(struct call) == 40, "a call is twelve 16-bit numbers and two of 64 bits");
 
 static _Noreturn void end(const char *why)
 {
@@ -66,17 +68,24 @@ static void give_back(const uint8_t *slice, size_t bytes)
 static mandrozsi_reply make(const struct call *c, uint16_t *board, uint64_t *list, uint8_t *other)
 {
     size_t entries = c->board_bytes / sizeof *board, numbers = c->list_bytes / sizeof *list, length = c->other_bytes;
-    mandrozsi_drive drive = {c->capacity, c->position, c->round};
+    mandrozsi_drive drive = {c->capacity, c->position, c->round}, partner = {c->other_capacity, c->other_position, c->other_round};
+    uint16_t *names = (uint16_t *)(void *)other;
     switch (c->number) {
     case OPEN: return mandrozsi_open(c->capacity, board, entries, list, numbers);
     case ADD: return mandrozsi_add(drive, board, entries, list, numbers, c->name, c->weight);
     case REMOVE: return mandrozsi_remove(drive, board, entries, list, numbers, c->name);
     case SLOT: return mandrozsi_slot(drive, board, entries, list, numbers);
-    case ROUND: return mandrozsi_round(drive, board, entries, (uint16_t *)(void *)other, length / sizeof(uint16_t));
+    case ROUND: return mandrozsi_round(drive, board, entries, names, length / sizeof *names);
     case REPORT: return mandrozsi_report(drive, board, entries, c->name);
     case SAVE: return mandrozsi_save(drive, board, entries, other, length);
     case READ: return mandrozsi_read(other, length, board, entries, list, numbers);
     case FETCH: return (mandrozsi_reply){{0, 0, 0}, mandrozsi_fetch(list, numbers, c->round)};
+    case PAIR_ADD: return mandrozsi_pair_add(drive, partner, board, entries, list, numbers, c->name, c->weight);
+    case PAIR_REMOVE: return mandrozsi_pair_remove(drive, partner, board, entries, list, numbers, c->name);
+    case PAIR_SLOT: return mandrozsi_pair_slot(drive, partner, board, entries, list, numbers);
+    case PAIR_ROUND: return mandrozsi_pair_round(drive, partner, board, entries, names, length / sizeof *names);
+    case PAIR_REPORT: return mandrozsi_pair_report(drive, partner, board, entries, c->name);
+    case PAIR_SAVE: return mandrozsi_pair_save(drive, partner, board, entries, other, length);
     }
     end("there is no such call");
 }

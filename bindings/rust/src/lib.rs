@@ -1,4 +1,4 @@
-//! The slot board of one tape drive: which stream each slot of a round serves.
+//! The slot board of one tape drive, or of two that share it: which stream each slot of a round serves.
 //!
 //! The functions stand in a static library whose every promise is proved; this crate gives them Rust's types. A board is a slice of 16-bit
 //! numbers that the caller keeps: a slice is passed as it is, and nothing is copied. Every call accepts every input; a refused one changes
@@ -26,7 +26,10 @@
 //! ```
 use std::fmt;
 
+mod pair;
 pub mod raw;
+
+pub use pair::{Pair, Side};
 
 use raw::{Reply, Said};
 
@@ -47,9 +50,9 @@ pub enum Refusal {
     Capacity,
     /// The board has fewer than C entries, or the list fewer than [`LIST`] numbers.
     Short,
-    /// p is 0 or above 2^k - 1.
+    /// p is 0 or above 2^k - 1; of two drives also: their capacities differ.
     Position,
-    /// p is not 1: a board is saved only at the start of a round.
+    /// p is not 1: a board is saved only at the start of a round, of two drives that of both.
     Midround,
     /// The board is not good: two pieces of one name, or two idle ones, have equal size.
     Damaged,
@@ -235,6 +238,27 @@ fn changed(reply: Reply) -> Result<Change, Refusal> {
     })
 }
 
+/// What slot says; the record moves on.
+fn served(record: &mut Drive, reply: Reply) -> Result<Slot, Refusal> {
+    let Reply { drive, said } = reply.done()?;
+    *record = drive;
+    Ok(Slot {
+        name: short(said.first),
+        leaf: short(said.second),
+        passed: short(said.third),
+        round: said.fourth,
+    })
+}
+
+fn reported(reply: Reply) -> Result<Stream, Refusal> {
+    let Said { first, second, third, .. } = reply.done()?.said;
+    Ok(Stream {
+        weight: short(first),
+        pieces: short(second),
+        spacing: short(third),
+    })
+}
+
 impl Drive {
     /// The largest capacity.
     pub const LARGEST: usize = 4095;
@@ -265,14 +289,8 @@ impl Drive {
     /// Serves the slot at the position, and moves the record on. At the start of a round the orders that wait are carried out first. Any board will
     /// do, good or not. Refused: 1 to 3.
     pub fn slot(&mut self, board: &mut [u16], list: &mut [u64]) -> Result<Slot, Refusal> {
-        let reply = unsafe { raw::mandrozsi_slot(*self, board.as_mut_ptr(), board.len(), list.as_mut_ptr(), list.len()) };
-        let Reply { drive, said } = reply.done()?;
-        *self = drive;
-        Ok(Slot {
-            name: short(said.first),
-            leaf: short(said.second),
-            passed: short(said.third),
-            round: said.fourth,
+        served(self, unsafe {
+            raw::mandrozsi_slot(*self, board.as_mut_ptr(), board.len(), list.as_mut_ptr(), list.len())
         })
     }
 
@@ -284,13 +302,7 @@ impl Drive {
 
     /// Reports on a stream. Refused: 1 to 3, 5, 6, 9.
     pub fn report(self, board: &[u16], name: u16) -> Result<Stream, Refusal> {
-        let reply = unsafe { raw::mandrozsi_report(self, board.as_ptr(), board.len(), name) };
-        let Said { first, second, third, .. } = reply.done()?.said;
-        Ok(Stream {
-            weight: short(first),
-            pieces: short(second),
-            spacing: short(third),
-        })
+        reported(unsafe { raw::mandrozsi_report(self, board.as_ptr(), board.len(), name) })
     }
 
     /// Writes the board's sheet to the start of the output and nothing beyond it: the bytes written. Refused: 1 to 5, 11.

@@ -31,4 +31,19 @@ extern "C" {
     pub fn mandrozsi_save(drive: Drive, board: *const u16, entries: usize, output: *mut u8, length: usize) -> Reply;
     pub fn mandrozsi_read(sheet: *const u8, length: usize, board: *mut u16, entries: usize, list: *mut u64, numbers: usize) -> Reply;
     pub fn mandrozsi_fetch(list: *mut u64, numbers: usize, ticket: u64) -> Said;
+    pub fn mandrozsi_pair_add(
+        own: Drive,
+        other: Drive,
+        board: *mut u16,
+        entries: usize,
+        list: *mut u64,
+        numbers: usize,
+        name: u16,
+        weight: u16,
+    ) -> Reply;
+    pub fn mandrozsi_pair_remove(own: Drive, other: Drive, board: *mut u16, entries: usize, list: *mut u64, numbers: usize, name: u16) -> Reply;
+    pub fn mandrozsi_pair_slot(own: Drive, other: Drive, board: *mut u16, entries: usize, list: *mut u64, numbers: usize) -> Reply;
+    pub fn mandrozsi_pair_round(own: Drive, other: Drive, board: *const u16, entries: usize, output: *mut u16, length: usize) -> Reply;
+    pub fn mandrozsi_pair_report(own: Drive, other: Drive, board: *const u16, entries: usize, name: u16) -> Reply;
+    pub fn mandrozsi_pair_save(own: Drive, other: Drive, board: *const u16, entries: usize, output: *mut u8, length: usize) -> Reply;
 }

@@ -2,14 +2,14 @@
 -- Assumes nothing.
 use mathlib.Core.Path.{_≡_, refl, sym, ap, subst, _∙_}
 use mathlib.Core.Bool.{Bool, true, false, cond, not}
-use mathlib.Core.List.{List, [], _∷_}
+use mathlib.Core.List.{List, [], _∷_, _++_}
 use mathlib.Core.Logic.{⊎-elim}
-use Prim.Native.Nat.{ℕ, _+_}
+use Prim.Native.Nat.{ℕ, _+_, _*_}
 use native.Mathlib.Omega.{arith}
 use lib.Dec.{eqb, ltb}
-use lib.ListN.{length}
+use lib.ListN.{length, drop}
 use borrow.Author.Tests.{eq-eqb, eqb-false}
-use Rattle.pieces.specs.Board.{good, weight}
+use Rattle.pieces.specs.Board.{good, weight, number}
 use Rattle.calls.specs.declared.Drive.{Drive}
 use Rattle.calls.specs.declared.Refusal.{Refusal}
 use Rattle.calls.specs.declared.Refusal.the-variants.{Capacity, Short, Position, Midround, Damaged, Name, Weight, Taken, Absent, Room, Output, Block}
@@ -17,22 +17,26 @@ use Rattle.calls.specs.declared.Check.{Check}
 use Rattle.calls.specs.declared.Check.the-variants.{Clear, Refused}
 use Rattle.calls.specs.Refusals.{numberOf, firstOf, refuseIf, andThen, zeroOr, among, askedOpen, asked, askedAdd, askedName, openMay, changeMay, slotMay, openCheck, slotCheck, positionCheck, goodCheck, heldCheck, changeCheck, admitCheck, addCheck, removeCheck, roundCheck, reportCheck}
 use Rattle.calls.specs.Records.{driveAt}
-use Rattle.calls.specs.Answers.{numberBy, beside}
+use Rattle.calls.specs.Answers.{numberBy, answered, beside}
+use Rattle.calls.specs.Results.{ifClear, roundNames, reportedSpacing}
 use Rattle.calls.proofs.Laws.{by-bool, refusal, Within, covers, first-next, first-within, then-within, if-within, part-within, other-number, change-parts, add-parts, remove-parts, round-answers, report-answers}
-use Rattle.sheets.specs.Sheet.{capacityIn, leavesIn, laid}
+use Rattle.sheets.specs.Sheet.{blocks, sheet, capacityIn, leavesIn, laid}
 use Rattle.sheets.specs.Results.{saveCheck, askedSheet, blockCheck, startCheck}
 use Rattle.sheets.proofs.Laws.{save-answers}
 use Rattle.waiting.specs.declared.Order.{Order}
-use Rattle.waiting.specs.Layout.{tooShort, lastTicket, full}
+use Rattle.waiting.specs.Layout.{tooShort, lastTicket, full, takenList}
 use Rattle.waiting.proofs.Laws.{fetch-cases}
 use Rattle.orders.specs.declared.Way.{Way}
 use Rattle.orders.specs.declared.Way.the-variants as way
 use Rattle.orders.specs.Checks.{longCheck, lentCheck, boundsCheck, readCheck, orderCheck, mustWait, wayBy, wayOf}
-use Rattle.orders.specs.Results.{addOrder, removeOrder, carriedAnswer, carriedBoard}
+use Rattle.orders.specs.Results.{addOrder, removeOrder, carriedAnswer, carriedBoard, changedAnswerBy, boardBy, listBy, servedBy, servedAnswerBy, boardThen, listThen}
 use Rattle.orders.proofs.Laws.{now-start}
 use Rattle.amended.specs.Deeds.{Deed, Opens, Reads, Adds, Removes, Slots, Rounds, Reports, Saves, Fetches, Desk, openChecks, readChecks, firstChecks, wayAt, answers}
 use Rattle.amended.specs.Refusing as refusing
-use Rattle.amended.specs.Refusing.{mayAnswer, isDone, zeros, idleLeaves}
+use Rattle.amended.specs.Refusing.{RefusedBy, mayAnswer, isDone, zeros, idleLeaves}
+
+pub clash : {P : Type 0} {b : Bool} → b ≡ true → b ≡ false → P
+clash t f = let z : _≡_ {A = ℕ} 0 1 = cc in absurd (omega arith)
 
 -- ---- the checks keep to their lists
 
@@ -68,7 +72,7 @@ read-within S B n =
     (part-within ns (5 ∷ []) sound refl (first-within (Damaged ∷ []) (asked (driveAt C 1) (leavesIn C S))))))
 
 -- an order that is to wait
-order-within : (C : ℕ) (B : List ℕ) (o : Order) → Within (5 ∷ 6 ∷ 7 ∷ []) (orderCheck C B o)
+pub order-within : (C : ℕ) (B : List ℕ) (o : Order) → Within (5 ∷ 6 ∷ 7 ∷ []) (orderCheck C B o)
 unfolding orderCheck zeroOr
 order-within C B o =
     let ns : List ℕ = 5 ∷ 6 ∷ 7 ∷ [] in
@@ -76,7 +80,7 @@ order-within C B o =
     if-within ns (not (good C B)) Damaged (refuseIf (eqb (o .name) 0) Name (refuseIf weightless Weight Clear)) refl
     (if-within ns (eqb (o .name) 0) Name (refuseIf weightless Weight Clear) refl (if-within ns weightless Weight Clear refl refl))
 
-remove-order-within : (C : ℕ) (B : List ℕ) (x : ℕ) → Within (5 ∷ 6 ∷ []) (orderCheck C B (removeOrder x))
+pub remove-order-within : (C : ℕ) (B : List ℕ) (x : ℕ) → Within (5 ∷ 6 ∷ []) (orderCheck C B (removeOrder x))
 unfolding orderCheck zeroOr
 remove-order-within C B x =
     let ns : List ℕ = 5 ∷ 6 ∷ [] in
@@ -122,6 +126,11 @@ way-within ns Clear false j m n r e = let z : _≡_ {A = ℕ} 0 1 = cc in absurd
 way-within ns Clear true Clear m n r e = let z : _≡_ {A = ℕ} 0 1 = cc in absurd (omega arith)
 way-within ns Clear true (Refused q) m n r e = let z : q ≡ r = cc in subst (λ (x : Refusal). zeroOr (numberOf x) ns ≡ true) z n
 
+-- How a change may be taken: it is refused only by a number of ns, and made at once only where a round begins.
+pub record TakenBy (ns : List ℕ) (d : Drive) (k : Way) : Type 0 where
+  pub within : (r : Refusal) → k ≡ way.Refused r → zeroOr (numberOf r) ns ≡ true
+  pub first : k ≡ way.Now → d .position ≡ 1
+
 -- ---- demand 1, call by call
 
 -- a call is refused where its number is not 0
@@ -138,105 +147,174 @@ beside-say : (ns : List ℕ) (n t idle : ℕ) → zeroOr n ns ≡ true → zeroO
     → beside n idle ∷ [] ≡ cond (eqb n 13) (t ∷ []) (cond (eqb n 10) (idle ∷ []) (0 ∷ []))
 beside-say ns n t idle m a = rw (other-number ns n 13 m a) (by-bool (eqb n 10) (λ y. rw y refl) (λ y. rw y refl))
 
-abbrev firsts : List ℕ
+-- the refusals of an add and of a remove that are not made
+abbrev pub firsts : List ℕ
 firsts = 1 ∷ 2 ∷ 3 ∷ 5 ∷ 6 ∷ 7 ∷ []
 
--- ---- add and remove
+abbrev pub removeFirsts : List ℕ
+removeFirsts = 1 ∷ 2 ∷ 3 ∷ 5 ∷ 6 ∷ []
 
-module _ (s : Desk) (x w : ℕ) where
-  abbrev o : Order
-  o = addOrder x w
+-- ---- add and remove, in whatever way they are taken
 
-  pub add-way : (r : Refusal) → wayAt o s ≡ way.Refused r → zeroOr (numberOf r) firsts ≡ true
-  unfolding wayOf covers zeroOr
-  add-way = way-within firsts (firstChecks s) (mustWait (s .state .drive) (s .list)) (orderCheck (s .state .drive .capacity) (s .state .board) o)
-      (part-within firsts (1 ∷ 2 ∷ 3 ∷ []) (firstChecks s) refl (bounds-within (s .state .drive) (s .state .board) (length (s .list))))
-      (part-within firsts (5 ∷ 6 ∷ 7 ∷ []) (orderCheck (s .state .drive .capacity) (s .state .board) o) refl (order-within (s .state .drive .capacity) (s .state .board) o))
+module _ (s : Desk) where
+  abbrev d : Drive
+  d = s .state .drive
 
-  add-refused : (k : Way) → wayAt o s ≡ k → isDone (Adds x w) s ≡ false → refusing.Refused (Adds x w) s
+  abbrev B : List ℕ
+  B = s .state .board
+
+  abbrev L : List ℕ
+  L = s .list
+
+  -- what a change leaves, taken in the way k
+  abbrev LeftBy : Deed → Order → Way → Type 0
+  LeftBy a o k = RefusedBy a s (changedAnswerBy k d B L o) d (boardBy k (carriedBoard d B o) B) (listBy k (takenList L o) L) []
+
+  pub add-refused : (x w : ℕ) (k : Way) → TakenBy firsts d k → eqb (changedAnswerBy k d B L (addOrder x w) .number) 0 ≡ false → LeftBy (Adds x w) (addOrder x w) k
   unfolding covers zeroOr carriedAnswer carriedBoard
-  add-refused (way.Refused r) e h =
-      let m = add-way r e in
+  add-refused x w (way.Refused r) t h =
+      let m = t .within r refl in
       record {
-        number = rw e (part-within (mayAnswer (Adds x w)) firsts (Refused r) refl m);
+        number = part-within (mayAnswer (Adds x w)) firsts (Refused r) refl m;
         record' = refl;
-        board = rw e refl;
-        list = λ q. rw e refl;
+        board = refl;
+        list = λ q. refl;
         output = refl;
-        values = rw e (zeros-say firsts (numberOf r) (lastTicket (s .list) + 1) (idleLeaves s) (0 ∷ []) m refl refl refl);
+        values = zeros-say firsts (numberOf r) (lastTicket L + 1) (idleLeaves s) (0 ∷ []) m refl refl refl;
       }
-  add-refused way.Wait e h = by-bool (full (s .list))
-      (λ f. record { number = rw (e, f) refl; record' = refl; board = rw e refl; list = λ q. rw (e, f) refl; output = refl; values = rw (e, f) refl })
+  add-refused x w way.Wait t h = by-bool (full L)
+      (λ f. record { number = rw f refl; record' = refl; board = refl; list = λ q. rw f refl; output = refl; values = rw f refl })
       (λ f. record {
-        number = rw (e, f) refl;
+        number = rw f refl;
         record' = refl;
-        board = rw e refl;
-        list = λ q. let z = rw (e, f) at q in let y : _≡_ {A = ℕ} 0 1 = cc in absurd (omega arith);
+        board = refl;
+        list = λ q. let z = rw f at q in let y : _≡_ {A = ℕ} 0 1 = cc in absurd (omega arith);
         output = refl;
-        values = rw (e, f) refl;
+        values = rw f refl;
       })
-  add-refused way.Now e h =
+  add-refused x w way.Now t h =
       let ns : List ℕ = 1 ∷ 2 ∷ 3 ∷ 5 ∷ 6 ∷ 7 ∷ 8 ∷ 10 ∷ [] in
-      let d = s .state .drive in
-      let f = refused (addCheck d (s .state .board) x w) (rw e at h) in
-      let m : zeroOr (numberOf (f .0)) ns ≡ true = rw (f .1) at (add-within d (s .state .board) x w (now-start d (s .state .board) (s .list) o e)) in
+      let f = refused (addCheck d B x w) h in
+      let m : zeroOr (numberOf (f .0)) ns ≡ true = rw (f .1) at (add-within d B x w (t .first refl)) in
       record {
-        number = rw (e, f .1) (part-within (mayAnswer (Adds x w)) ns (Refused (f .0)) refl m);
+        number = rw (f .1) (part-within (mayAnswer (Adds x w)) ns (Refused (f .0)) refl m);
         record' = refl;
-        board = rw (e, f .1) refl;
-        list = λ q. rw e refl;
+        board = rw (f .1) refl;
+        list = λ q. refl;
         output = refl;
-        values = rw (e, f .1) (beside-say ns (numberOf (f .0)) (lastTicket (s .list) + 1) (idleLeaves s) m refl);
+        values = rw (f .1) (beside-say ns (numberOf (f .0)) (lastTicket L + 1) (idleLeaves s) m refl);
       }
 
-module _ (s : Desk) (x : ℕ) where
-  abbrev p : Order
-  p = removeOrder x
-
-  pub remove-way : (r : Refusal) → wayAt p s ≡ way.Refused r → zeroOr (numberOf r) (1 ∷ 2 ∷ 3 ∷ 5 ∷ 6 ∷ []) ≡ true
-  unfolding wayOf covers zeroOr
-  remove-way =
-      let ns : List ℕ = 1 ∷ 2 ∷ 3 ∷ 5 ∷ 6 ∷ [] in
-      way-within ns (firstChecks s) (mustWait (s .state .drive) (s .list)) (orderCheck (s .state .drive .capacity) (s .state .board) p)
-      (part-within ns (1 ∷ 2 ∷ 3 ∷ []) (firstChecks s) refl (bounds-within (s .state .drive) (s .state .board) (length (s .list))))
-      (part-within ns (5 ∷ 6 ∷ []) (orderCheck (s .state .drive .capacity) (s .state .board) p) refl (remove-order-within (s .state .drive .capacity) (s .state .board) x))
-
-  remove-refused : (k : Way) → wayAt p s ≡ k → isDone (Removes x) s ≡ false → refusing.Refused (Removes x) s
+  pub remove-refused : (x : ℕ) (k : Way) → TakenBy removeFirsts d k → eqb (changedAnswerBy k d B L (removeOrder x) .number) 0 ≡ false → LeftBy (Removes x) (removeOrder x) k
   unfolding covers zeroOr carriedAnswer carriedBoard
-  remove-refused (way.Refused r) e h =
-      let ns : List ℕ = 1 ∷ 2 ∷ 3 ∷ 5 ∷ 6 ∷ [] in
-      let m = remove-way r e in
+  remove-refused x (way.Refused r) t h =
+      let m = t .within r refl in
       record {
-        number = rw e (part-within (mayAnswer (Removes x)) ns (Refused r) refl m);
+        number = part-within (mayAnswer (Removes x)) removeFirsts (Refused r) refl m;
         record' = refl;
-        board = rw e refl;
-        list = λ q. rw e refl;
+        board = refl;
+        list = λ q. refl;
         output = refl;
-        values = rw e (zeros-say ns (numberOf r) (lastTicket (s .list) + 1) (idleLeaves s) (0 ∷ []) m refl refl refl);
+        values = zeros-say removeFirsts (numberOf r) (lastTicket L + 1) (idleLeaves s) (0 ∷ []) m refl refl refl;
       }
-  remove-refused way.Wait e h = by-bool (full (s .list))
-      (λ f. record { number = rw (e, f) refl; record' = refl; board = rw e refl; list = λ q. rw (e, f) refl; output = refl; values = rw (e, f) refl })
+  remove-refused x way.Wait t h = by-bool (full L)
+      (λ f. record { number = rw f refl; record' = refl; board = refl; list = λ q. rw f refl; output = refl; values = rw f refl })
       (λ f. record {
-        number = rw (e, f) refl;
+        number = rw f refl;
         record' = refl;
-        board = rw e refl;
-        list = λ q. let z = rw (e, f) at q in let y : _≡_ {A = ℕ} 0 1 = cc in absurd (omega arith);
+        board = refl;
+        list = λ q. let z = rw f at q in let y : _≡_ {A = ℕ} 0 1 = cc in absurd (omega arith);
         output = refl;
-        values = rw (e, f) refl;
+        values = rw f refl;
       })
-  remove-refused way.Now e h =
+  remove-refused x way.Now t h =
       let ns : List ℕ = 1 ∷ 2 ∷ 3 ∷ 5 ∷ 6 ∷ 9 ∷ [] in
-      let d = s .state .drive in
-      let f = refused (removeCheck d (s .state .board) x) (rw e at h) in
-      let m : zeroOr (numberOf (f .0)) ns ≡ true = rw (f .1) at (remove-within d (s .state .board) x (now-start d (s .state .board) (s .list) p e)) in
+      let f = refused (removeCheck d B x) h in
+      let m : zeroOr (numberOf (f .0)) ns ≡ true = rw (f .1) at (remove-within d B x (t .first refl)) in
       record {
-        number = rw (e, f .1) (part-within (mayAnswer (Removes x)) ns (Refused (f .0)) refl m);
+        number = rw (f .1) (part-within (mayAnswer (Removes x)) ns (Refused (f .0)) refl m);
         record' = refl;
-        board = rw (e, f .1) refl;
-        list = λ q. rw e refl;
+        board = rw (f .1) refl;
+        list = λ q. refl;
         output = refl;
-        values = rw (e, f .1) (zeros-say ns (numberOf (f .0)) (lastTicket (s .list) + 1) (idleLeaves s) (0 ∷ []) m refl refl refl);
+        values = rw (f .1) (zeros-say ns (numberOf (f .0)) (lastTicket L + 1) (idleLeaves s) (0 ∷ []) m refl refl refl);
       }
+
+  pub add-taken : (x w : ℕ) → TakenBy firsts d (wayAt (addOrder x w) s)
+  unfolding wayOf covers zeroOr
+  add-taken x w =
+      let o = addOrder x w in
+      record {
+        within = way-within firsts (firstChecks s) (mustWait d L) (orderCheck (d .capacity) B o)
+            (part-within firsts (1 ∷ 2 ∷ 3 ∷ []) (firstChecks s) refl (bounds-within d B (length L)))
+            (part-within firsts (5 ∷ 6 ∷ 7 ∷ []) (orderCheck (d .capacity) B o) refl (order-within (d .capacity) B o));
+        first = now-start d B L o;
+      }
+
+  pub remove-taken : (x : ℕ) → TakenBy removeFirsts d (wayAt (removeOrder x) s)
+  unfolding wayOf covers zeroOr
+  remove-taken x =
+      let o = removeOrder x in
+      record {
+        within = way-within removeFirsts (firstChecks s) (mustWait d L) (orderCheck (d .capacity) B o)
+            (part-within removeFirsts (1 ∷ 2 ∷ 3 ∷ []) (firstChecks s) refl (bounds-within d B (length L)))
+            (part-within removeFirsts (5 ∷ 6 ∷ []) (orderCheck (d .capacity) B o) refl (remove-order-within (d .capacity) B x));
+        first = now-start d B L o;
+      }
+
+  -- ---- slot, round, report and save, by what their checks find
+
+  pub slot-refused : (D F : List ℕ) (k : Check) → Within (mayAnswer Slots) k → eqb (numberBy k) 0 ≡ false
+      → RefusedBy Slots s (servedAnswerBy k d D) (servedBy k d D .drive) (ifClear k D B) (ifClear k F L) []
+  unfolding zeroOr
+  slot-refused D F Clear m h = clash refl h
+  slot-refused D F (Refused r) m h = record {
+    number = m;
+    record' = refl;
+    board = refl;
+    list = λ q. refl;
+    output = refl;
+    values = zeros-say (mayAnswer Slots) (numberOf r) 0 (idleLeaves s) (0 ∷ 0 ∷ 0 ∷ 0 ∷ []) m refl refl refl;
+  }
+
+  pub round-refused : (O done : List ℕ) (k : Check) → Within (mayAnswer (Rounds O)) k → eqb (numberBy k) 0 ≡ false
+      → RefusedBy (Rounds O) s (answered k []) d B L (ifClear k done O)
+  unfolding zeroOr
+  round-refused O done Clear m h = clash refl h
+  round-refused O done (Refused r) m h = record {
+    number = m;
+    record' = refl;
+    board = refl;
+    list = λ q. refl;
+    output = refl;
+    values = zeros-say (mayAnswer (Rounds O)) (numberOf r) 0 (idleLeaves s) [] m refl refl refl;
+  }
+
+  pub report-refused : (x w n p : ℕ) (k : Check) → Within (mayAnswer (Reports x)) k → eqb (numberBy k) 0 ≡ false
+      → RefusedBy (Reports x) s (answered k (w ∷ n ∷ p ∷ [])) d B L []
+  unfolding zeroOr
+  report-refused x w n p Clear m h = clash refl h
+  report-refused x w n p (Refused r) m h = record {
+    number = m;
+    record' = refl;
+    board = refl;
+    list = λ q. refl;
+    output = refl;
+    values = zeros-say (mayAnswer (Reports x)) (numberOf r) 0 (idleLeaves s) (0 ∷ 0 ∷ 0 ∷ []) m refl refl refl;
+  }
+
+  pub save-refused : (O done : List ℕ) (n : ℕ) (k : Check) → Within (mayAnswer (Saves O)) k → eqb (numberBy k) 0 ≡ false
+      → RefusedBy (Saves O) s (answered k (n ∷ [])) d B L (ifClear k done O)
+  unfolding zeroOr
+  save-refused O done n Clear m h = clash refl h
+  save-refused O done n (Refused r) m h = record {
+    number = m;
+    record' = refl;
+    board = refl;
+    list = λ q. refl;
+    output = refl;
+    values = zeros-say (mayAnswer (Saves O)) (numberOf r) 0 (idleLeaves s) (0 ∷ []) m refl refl refl;
+  }
 
 -- ---- fetch
 
@@ -277,50 +355,20 @@ demand-1-amended (Reads S) s h =
       output = refl;
       values = zeros-say (12 ∷ 1 ∷ 2 ∷ 5 ∷ []) (answers (Reads S) s .number) 0 (idleLeaves s) (answers (Reads S) s .values) m refl refl (rw e refl);
     }
-demand-1-amended (Adds x w) s h = add-refused s x w (wayAt (addOrder x w) s) refl h
-demand-1-amended (Removes x) s h = remove-refused s x (wayAt (removeOrder x) s) refl h
+demand-1-amended (Adds x w) s h = add-refused s x w (wayAt (addOrder x w) s) (add-taken s x w) h
+demand-1-amended (Removes x) s h = remove-refused s x (wayAt (removeOrder x) s) (remove-taken s x) h
 demand-1-amended Slots s h =
-    let e = refused (firstChecks s) h .1 in
-    let m = bounds-within (s .state .drive) (s .state .board) (length (s .list)) in
-    record {
-      number = m;
-      record' = rw e refl;
-      board = rw e refl;
-      list = λ q. rw e refl;
-      output = refl;
-      values = zeros-say (1 ∷ 2 ∷ 3 ∷ []) (answers Slots s .number) 0 (idleLeaves s) (answers Slots s .values) m refl refl (rw e refl);
-    }
+    let d = s .state .drive in
+    slot-refused s (boardThen d (s .state .board) (s .list)) (listThen d (s .state .board) (s .list)) (firstChecks s) (bounds-within d (s .state .board) (length (s .list))) h
 demand-1-amended (Rounds O) s h =
-    let e = refused (roundCheck (s .state .drive) (s .state .board) (length O)) h .1 in
-    let m = round-answers (s .state .drive) (s .state .board) O in
-    record {
-      number = m;
-      record' = refl;
-      board = refl;
-      list = λ q. refl;
-      output = rw e refl;
-      values = zeros-say (mayAnswer (Rounds O)) (answers (Rounds O) s .number) 0 (idleLeaves s) (answers (Rounds O) s .values) m refl refl (rw e refl);
-    }
+    let d = s .state .drive in
+    round-refused s O (roundNames (d .capacity) (s .state .board) ++ drop (d .capacity) O) (roundCheck d (s .state .board) (length O)) (round-answers d (s .state .board) O) h
 demand-1-amended (Reports x) s h =
-    let e = refused (reportCheck (s .state .drive) (s .state .board) x) h .1 in
-    let m = report-answers (s .state .drive) (s .state .board) x in
-    record {
-      number = m;
-      record' = refl;
-      board = refl;
-      list = λ q. refl;
-      output = refl;
-      values = zeros-say (mayAnswer (Reports x)) (answers (Reports x) s .number) 0 (idleLeaves s) (answers (Reports x) s .values) m refl refl (rw e refl);
-    }
+    let d = s .state .drive in
+    let B = s .state .board in
+    report-refused s x (weight (d .capacity) B x) (number (d .capacity) B x) (reportedSpacing d B x) (reportCheck d B x) (report-answers d B x) h
 demand-1-amended (Saves O) s h =
-    let e = refused (saveCheck (s .state .drive) (s .state .board) (length O)) h .1 in
-    let m = save-answers (s .state .drive) (s .state .board) O in
-    record {
-      number = m;
-      record' = refl;
-      board = refl;
-      list = λ q. refl;
-      output = rw e refl;
-      values = zeros-say (mayAnswer (Saves O)) (answers (Saves O) s .number) 0 (idleLeaves s) (answers (Saves O) s .values) m refl refl (rw e refl);
-    }
+    let d = s .state .drive in
+    let B = s .state .board in
+    save-refused s O (sheet (d .capacity) B ++ drop (512 * blocks (d .capacity)) O) (512 * blocks (d .capacity)) (saveCheck d B (length O)) (save-answers d B O) h
 demand-1-amended (Fetches t) s h = fetch-refused t s h

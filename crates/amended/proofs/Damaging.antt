@@ -1,7 +1,7 @@
 -- On a good board no call with the list answers DAMAGED.
 -- Assumes nothing.
 use mathlib.Core.Path.{_≡_, refl, sym, ap, _∙_}
-use mathlib.Core.Bool.{Bool, true, false, cond, not}
+use mathlib.Core.Bool.{true, false, cond, not}
 use mathlib.Core.List.{List, [], _∷_}
 use Prim.Native.Nat.{ℕ, _*_}
 use native.Mathlib.Omega.{arith}
@@ -9,7 +9,6 @@ use lib.Dec.{eqb}
 use lib.ListN.{length}
 use borrow.Author.Tests.{eq-eqb}
 use Rattle.pieces.specs.Board.{good}
-use Rattle.calls.specs.declared.Refusal.{Refusal}
 use Rattle.calls.specs.declared.Refusal.the-variants.{Damaged, Name, Weight}
 use Rattle.calls.specs.declared.Check.{Check}
 use Rattle.calls.specs.declared.Check.the-variants.{Clear, Refused}
@@ -19,34 +18,32 @@ use Rattle.calls.proofs.Laws.{by-bool, Within, covers, if-within, part-within, 
 use Rattle.sheets.specs.Sheet.{blocks}
 use Rattle.sheets.specs.Results.{saveMay, saveCheck}
 use Rattle.sheets.proofs.Laws.{save-ascending}
-use Rattle.demands.specs.Histories.{Add, Remove, Round, Report}
+use Rattle.demands.specs.Histories.{Add, Remove, Round, Report, State}
 use Rattle.demands.specs.Holdings.{Stream}
-use Rattle.demands.proofs.Laws.{never-damaged}
+use Rattle.demands.proofs.Laws.{Sound, never-damaged}
 use Rattle.waiting.specs.declared.Order.{Order}
 use Rattle.waiting.specs.Layout.{full}
 use Rattle.orders.specs.declared.Way.{Way}
 use Rattle.orders.specs.declared.Way.the-variants as way
 use Rattle.orders.specs.Checks.{orderCheck, mustWait, wayOf}
-use Rattle.orders.specs.Results.{addOrder, removeOrder, takenAnswer}
+use Rattle.orders.specs.Results.{addOrder, removeOrder, takenAnswer, changedAnswerBy}
+use Rattle.orders.proofs.Laws.{now-start}
 use Rattle.amended.specs.Deeds.{Deed, Opens, Reads, Adds, Removes, Slots, Rounds, Reports, Saves, Fetches, Desk, firstChecks, wayAt, answers}
 use Rattle.amended.specs.Refusing.{ofBoard}
-use Rattle.amended.proofs.Projection.{add-made, remove-made}
+use Rattle.amended.proofs.Carrying.{add-says, remove-says}
 use Rattle.amended.proofs.Sounding.{Standing}
 use Rattle.amended.proofs.Rounding.{slot-served}
-use Rattle.amended.proofs.Answering.{lent-within, bounds-within, way-within}
-
-clash : {P : Type 0} {b : Bool} → b ≡ true → b ≡ false → P
-clash t f = let z : _≡_ {A = ℕ} 0 1 = cc in absurd (omega arith)
+use Rattle.amended.proofs.Answering.{clash, TakenBy, lent-within, bounds-within, way-within}
 
 -- 5 is not of the list
-not-five : (ns : List ℕ) (n : ℕ) → zeroOr n ns ≡ true → zeroOr 5 ns ≡ false → n ≡ 5 → ⊥
+pub not-five : (ns : List ℕ) (n : ℕ) → zeroOr n ns ≡ true → zeroOr 5 ns ≡ false → n ≡ 5 → ⊥
 not-five ns n m f e = clash (eq-eqb n 5 e) (other-number ns n 5 m f)
 
 taken-not : (L : List ℕ) → takenAnswer L .number ≡ 5 → ⊥
 taken-not L h = by-bool (full L) (λ t. let z = rw t at h in omega arith) (λ t. let z = rw t at h in omega arith)
 
 -- on a good board an order that waits is not refused for it
-fine-within : (C : ℕ) (B : List ℕ) (o : Order) → good C B ≡ true → Within (6 ∷ 7 ∷ []) (orderCheck C B o)
+pub fine-within : (C : ℕ) (B : List ℕ) (o : Order) → good C B ≡ true → Within (6 ∷ 7 ∷ []) (orderCheck C B o)
 unfolding orderCheck zeroOr
 fine-within C B o fine =
     let ns : List ℕ = 6 ∷ 7 ∷ [] in
@@ -54,7 +51,7 @@ fine-within C B o fine =
     rw fine (if-within ns (eqb (o .name) 0) Name (refuseIf weightless Weight Clear) refl (if-within ns weightless Weight Clear refl refl))
 
 -- nor is save
-save-not : (k : Check) (q : Asked) → firstOf saveMay q ≡ k → not (good (q .capacity) (q .board)) ≡ false → numberBy k ≡ 5 → ⊥
+pub save-not : (k : Check) (q : Asked) → firstOf saveMay q ≡ k → not (good (q .capacity) (q .board)) ≡ false → numberBy k ≡ 5 → ⊥
 unfolding applies
 save-not Clear q e fine h = omega arith
 save-not (Refused r) q e fine h =
@@ -62,38 +59,45 @@ save-not (Refused r) q e fine h =
     let a = first-lowest 0 saveMay q r save-ascending e .0 in
     clash (rw d at a) fine
 
+-- nor is a change, in whatever way it is taken
+abbrev pub fines : List ℕ
+fines = 1 ∷ 2 ∷ 3 ∷ 6 ∷ 7 ∷ []
+
+module _ (u : State) (hs : List Stream) (is : Sound u hs) (L : List ℕ) where
+  pub add-not : (x w : ℕ) (k : Way) → TakenBy fines (u .drive) k → changedAnswerBy k (u .drive) (u .board) L (addOrder x w) .number ≡ 5 → ⊥
+  unfolding zeroOr
+  add-not x w (way.Refused r) t h = not-five fines (numberOf r) (t .within r refl) refl h
+  add-not x w way.Wait t h = taken-not L h
+  add-not x w way.Now t h = never-damaged u hs is (Add x w) (ap (λ (a : Answer). a .number) (sym (add-says u x w)) ∙ h)
+
+  pub remove-not : (x : ℕ) (k : Way) → TakenBy fines (u .drive) k → changedAnswerBy k (u .drive) (u .board) L (removeOrder x) .number ≡ 5 → ⊥
+  unfolding zeroOr
+  remove-not x (way.Refused r) t h = not-five fines (numberOf r) (t .within r refl) refl h
+  remove-not x way.Wait t h = taken-not L h
+  remove-not x way.Now t h = never-damaged u hs is (Remove x) (ap (λ (a : Answer). a .number) (sym (remove-says u x)) ∙ h)
+
 module _ (hs : List Stream) (s : Desk) (is : Standing hs s) where
   fine : good (s .state .drive .capacity) (s .state .board) ≡ true
   fine = is .sound .fine
 
-  -- a change that is not made
-  change-not : (o : Order) (r : Refusal) → wayAt o s ≡ way.Refused r → numberOf r ≡ 5 → ⊥
+  taken : (o : Order) → TakenBy fines (s .state .drive) (wayAt o s)
   unfolding wayOf covers zeroOr
-  change-not o r e =
-      let ns : List ℕ = 1 ∷ 2 ∷ 3 ∷ 6 ∷ 7 ∷ [] in
+  taken o =
       let C = s .state .drive .capacity in
       let B = s .state .board in
-      not-five ns (numberOf r)
-      (way-within ns (firstChecks s) (mustWait (s .state .drive) (s .list)) (orderCheck C B o)
-      (part-within ns (1 ∷ 2 ∷ 3 ∷ []) (firstChecks s) refl (bounds-within (s .state .drive) B (length (s .list))))
-      (part-within ns (6 ∷ 7 ∷ []) (orderCheck C B o) refl (fine-within C B o fine)) r e) refl
-
-  add-not : (x w : ℕ) (k : Way) → wayAt (addOrder x w) s ≡ k → answers (Adds x w) s .number ≡ 5 → ⊥
-  add-not x w (way.Refused r) e h = change-not (addOrder x w) r e (rw e at h)
-  add-not x w way.Wait e h = taken-not (s .list) (rw e at h)
-  add-not x w way.Now e h = never-damaged (s .state) hs (is .sound) (Add x w) (ap (λ (a : Answer). a .number) (sym (add-made s x w e)) ∙ h)
-
-  remove-not : (x : ℕ) (k : Way) → wayAt (removeOrder x) s ≡ k → answers (Removes x) s .number ≡ 5 → ⊥
-  remove-not x (way.Refused r) e h = change-not (removeOrder x) r e (rw e at h)
-  remove-not x way.Wait e h = taken-not (s .list) (rw e at h)
-  remove-not x way.Now e h = never-damaged (s .state) hs (is .sound) (Remove x) (ap (λ (a : Answer). a .number) (sym (remove-made s x e)) ∙ h)
+      record {
+        within = way-within fines (firstChecks s) (mustWait (s .state .drive) (s .list)) (orderCheck C B o)
+            (part-within fines (1 ∷ 2 ∷ 3 ∷ []) (firstChecks s) refl (bounds-within (s .state .drive) B (length (s .list))))
+            (part-within fines (6 ∷ 7 ∷ []) (orderCheck C B o) refl (fine-within C B o fine));
+        first = now-start (s .state .drive) B (s .list) o;
+      }
 
   pub undamaged : (a : Deed) → ofBoard a ≡ true → answers a s .number ≡ 5 → ⊥
   unfolding saveCheck zeroOr
   undamaged (Opens C) o h = not-five (1 ∷ 2 ∷ []) (answers (Opens C) s .number) (lent-within C (s .state .board) (length (s .list))) refl h
   undamaged (Reads S) o h = clash o refl
-  undamaged (Adds x w) o h = add-not x w (wayAt (addOrder x w) s) refl h
-  undamaged (Removes x) o h = remove-not x (wayAt (removeOrder x) s) refl h
+  undamaged (Adds x w) o h = add-not (s .state) hs (is .sound) (s .list) x w (wayAt (addOrder x w) s) (taken (addOrder x w)) h
+  undamaged (Removes x) o h = remove-not (s .state) hs (is .sound) (s .list) x (wayAt (removeOrder x) s) (taken (removeOrder x)) h
   undamaged Slots o h = let z = slot-served hs s is in omega arith
   undamaged (Rounds O) o h = never-damaged (s .state) hs (is .sound) (Round O) h
   undamaged (Reports x) o h = never-damaged (s .state) hs (is .sound) (Report x) h

@@ -1,31 +1,28 @@
 -- The demands as request No. 2 amends them, each by its name. Demand 1, tickets and what becomes of an order hold for every call and every input; demand 3 for every
 -- history of calls with the waiting list, refused or not, opens and reads among them, from any desk with a good board.
 -- Assumes nothing.
-use mathlib.Core.Path.{_≡_, refl, sym, ap, subst, _∙_}
+use mathlib.Core.Path.{_≡_, refl, sym, subst, _∙_}
 use mathlib.Core.Bool.{true, false, cond}
 use mathlib.Core.List.{List, [], _∷_}
 use Prim.Native.Nat.{ℕ, zero, _+_, _-_, _*_, _≤_, _<_}
 use native.Mathlib.Omega.{arith}
 use lib.Count.{ones}
-use lib.Dec.{eqb, ltb}
+use lib.Dec.{ltb}
 use lib.ListN.{length, getD, replicate}
 use Rattle.pieces.specs.Board.{weight, number}
-use Rattle.pieces.proofs.Laws.{pieces-ones}
 use Rattle.calls.specs.declared.Check.the-variants.{Clear}
 use Rattle.calls.specs.Refusals.{firstOf, askedAdd}
-use Rattle.calls.specs.Results.{slotNames, roundNames}
-use Rattle.calls.proofs.Laws.{by-bool}
-use Rattle.demands.specs.Histories.{Act, Add, Remove, State, after, log}
+use Rattle.calls.specs.Results.{roundNames}
+use Rattle.demands.specs.Histories.{Act, State, after, log}
 use Rattle.demands.specs.Refusing.{otherChecks}
 use Rattle.demands.specs.Holdings.{Stream, heldFrom, heldOf, total}
 use Rattle.demands.specs.Rounds.{times, inARow, Near, bound, demanded}
-use Rattle.demands.proofs.Laws.{Sound, reached, moves, never-damaged, room, room-told, others-pass, full-names, served-round, served-fair}
 use Rattle.waiting.specs.declared.Order.{Order}
 use Rattle.waiting.specs.Layout.{lastTicket, placesIn, waiting}
 use Rattle.waiting.specs.Meaning.{InOrder}
 use Rattle.waiting.proofs.Laws.{free-in-order}
 use Rattle.orders.specs.declared.Way.the-variants as way
-use Rattle.orders.specs.Results.{addOrder, removeOrder, carriedAnswer, boardThen}
+use Rattle.orders.specs.Results.{addOrder, removeOrder, boardThen}
 use Rattle.amended.specs.Carried.{actsOf, inTurn}
 use Rattle.amended.specs.Deeds.{Deed, Adds, Removes, Slots, Fetches, Desk, wayAt, answers, leaves, leavesAll, restarts, plain, namesServed, FullRound, ticketsTold, CountUp}
 use Rattle.amended.specs.Fates.{Waits, toldOf, fateThrough}
@@ -33,6 +30,7 @@ use Rattle.amended.specs.Holding.{onBoard, heldThrough, heldThen, Ready}
 use Rattle.amended.specs.Refusing.{ofBoard}
 use Rattle.amended.proofs.Carrying.{add-says}
 use Rattle.amended.proofs.Projection.{ranState, add-made}
+use Rattle.amended.proofs.Keeping.{held-leaves, held-pieces, held-within, turn-others, turn-room, turn-carried, Serves, round-serves}
 use Rattle.amended.proofs.Sounding.{Standing, standing, restart-ready}
 use Rattle.amended.proofs.Damaging.{undamaged}
 use Rattle.amended.proofs.Listing.{count-up, up-rising, in-order, followed, taken-follows, add-thirteen, remove-thirteen}
@@ -110,14 +108,13 @@ module _ (s : Desk) (ready : Ready s) (deeds : List Deed) where
 
   -- What is held of a name is the number of its leaves, in as many pieces as that has ones; and the weights held are never more than C.
   pub amended-held : (x : ℕ) → (x ≡ 0 → ⊥) → heldOf x held' ≡ weight C (desk' .state .board) x
-  amended-held x named = sym (st .sound .names x named)
+  amended-held = held-leaves (desk' .state) held' (st .sound)
 
   pub amended-pieces : (x : ℕ) → (x ≡ 0 → ⊥) → number C (desk' .state .board) x ≡ ones (heldOf x held')
-  amended-pieces x named =
-      pieces-ones C (desk' .state .board) x (let f = st .sound .valid .at .few in omega arith) (st .sound .fine) ∙ ap ones (sym (amended-held x named))
+  amended-pieces = held-pieces (desk' .state) held' (st .sound)
 
   pub amended-within : total held' ≤ C
-  amended-within = let i = st .sound .idle in omega arith
+  amended-within = held-within (desk' .state) held' (st .sound)
 
   -- ---- an add when it is carried out, the orders ahead of it being carried out before: from the list, or at once, with none ahead
 
@@ -129,33 +126,20 @@ module _ (s : Desk) (ready : Ready s) (deeds : List Deed) where
     abbrev pub heldInTurn : List Stream
     heldInTurn = heldFrom held' (log (desk' .state) (actsOf ahead))
 
-    turn-sound : Sound turn heldInTurn
-    turn-sound = reached (desk' .state) held' (st .sound) (actsOf ahead)
-
     -- It passes the checks beside ROOM if a round begins, it has a name and a weight, and nothing is held of the name;
     pub amended-others : (x w : ℕ) → turn .drive .position ≡ 1 → (x ≡ 0 → ⊥) → (w ≡ 0 → ⊥) → heldOf x heldInTurn ≡ 0
         → firstOf otherChecks (askedAdd (turn .drive) (turn .board) x w) ≡ Clear
-    amended-others = others-pass turn heldInTurn turn-sound
+    amended-others = turn-others (desk' .state) held' (st .sound) ahead
 
     -- and then it is refused for ROOM exactly when its weight exceeds C less the sum of the weights held, and else it is done. Refused so, it says that number.
     pub amended-room : (x w : ℕ) → firstOf otherChecks (askedAdd (turn .drive) (turn .board) x w) ≡ Clear
         → (inTurn (desk' .state) ahead (addOrder x w) .number ≡ cond (ltb (C - total heldInTurn) w) 10 0)
         × (inTurn (desk' .state) ahead (addOrder x w) .number ≡ 10 → inTurn (desk' .state) ahead (addOrder x w) .values ≡ (C - total heldInTurn) ∷ [])
-    unfolding carriedAnswer
-    amended-room x w e =
-        let c = moves (desk' .state) (actsOf ahead) .0 in (
-          room turn heldInTurn turn-sound x w e ∙ ap (λ (n : ℕ). cond (ltb (n - total heldInTurn) w) 10 0) c,
-          λ full. room-told turn heldInTurn turn-sound x w full ∙ ap (λ (n : ℕ). (n - total heldInTurn) ∷ []) c,
-        )
+    amended-room = turn-room (desk' .state) held' (st .sound) ahead
 
     -- No order is answered DAMAGED.
     pub amended-carried : (o : Order) → inTurn (desk' .state) ahead o .number ≡ 5 → ⊥
-    unfolding carriedAnswer
-    amended-carried o h = by-bool (eqb (o .kind) 1)
-        (λ t. never-damaged turn heldInTurn turn-sound (Add (o .name) (o .weight)) (rw t at h))
-        (λ f. by-bool (eqb (o .kind) 2)
-        (λ t. never-damaged turn heldInTurn turn-sound (Remove (o .name)) (rw (f, t) at h))
-        (λ n. let z = rw (f, n) at h in omega arith))
+    amended-carried = turn-carried (desk' .state) held' (st .sound) ahead
 
   -- An add that is made at once is answered so, with none ahead of it.
   pub amended-at-once : (x w : ℕ) → wayAt (addOrder x w) desk' ≡ way.Now → answers (Adds x w) desk' ≡ inTurn (desk' .state) [] (addOrder x w)
@@ -172,25 +156,23 @@ module _ (s : Desk) (ready : Ready s) (deeds : List Deed) where
     abbrev later : List Act
     later = plain (leaves Slots desk') rest
 
+    serves : Serves C (ranState desk' .board) (heldThen held' desk') (namesServed desk' (Slots ∷ rest))
+    serves =
+        round-serves (ranState desk') (heldThen held' desk') (ran-sound held' desk' st) later (plain-round held' desk' st rest full)
+        (namesServed desk' (Slots ∷ rest)) (round-names held' desk' st rest full)
+
     -- A full round serves the names that round would write once the list has run: the first slot is picked after that.
     pub amended-order : namesServed desk' (Slots ∷ rest) ≡ roundNames C (boardThen (desk' .state .drive) (desk' .state .board) (desk' .list))
-    unfolding slotNames
-    amended-order =
-        round-names held' desk' st rest full
-        ∙ full-names (ranState desk') later (ran-sound held' desk' st .valid) (plain-round held' desk' st rest full)
+    amended-order = serves .order
 
     -- In it a name is served as often as the weight that it holds once the list has run.
     pub amended-round : (x : ℕ) → (x ≡ 0 → ⊥) → times x (namesServed desk' (Slots ∷ rest)) ≡ heldOf x (heldThen held' desk')
-    amended-round x named =
-        ap (times x) (round-names held' desk' st rest full)
-        ∙ served-round (ranState desk') (heldThen held' desk') (ran-sound held' desk' st) later (plain-round held' desk' st rest full) x named
+    amended-round = serves .often
 
     -- In any t successive slots of it a stream of weight w is served s times, and C s and w t differ by less than m C + w h,
     pub amended-fair : (x w i t : ℕ) → heldOf x (heldThen held' desk') ≡ w → zero < w → i + t ≤ C
         → Near (C * times x (inARow i t (namesServed desk' (Slots ∷ rest)))) (w * t) (bound C w)
-    amended-fair x w i t h some within =
-        rw (round-names held' desk' st rest full)
-        (served-fair (ranState desk') (heldThen held' desk') (ran-sound held' desk' st) later (plain-round held' desk' st rest full) x w i t h some within)
+    amended-fair = serves .fair
 
     -- so by less than the demand's own 2 m C + w h.
     pub amended-demanded : (x w i t : ℕ) → heldOf x (heldThen held' desk') ≡ w → zero < w → i + t ≤ C

@@ -1,4 +1,4 @@
--- The demands as amended stand in Demands. The rest is inner.
+-- The demands as amended stand in Demands, for two drives in TwoDemands. The rest is inner.
 mod Projecting
 mod Carrying
 mod Projection
@@ -8,5 +8,14 @@ mod Answering
 mod Damaging
 mod Listing
 mod Promised
+mod Keeping
+mod Turning
+mod Sharing
+mod TurnRounds
+mod TurnAnswers
+mod TurnLists
+mod TurnPromised
 pub mod Demands
+pub mod TwoDemands
 mod Examples
+mod TurnExamples

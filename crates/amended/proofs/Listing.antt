@@ -26,44 +26,42 @@ use Rattle.waiting.proofs.Laws.{take-last, run-last, fetch-last, empty-last, em
 use Rattle.orders.specs.declared.Way.{Way}
 use Rattle.orders.specs.declared.Way.the-variants as way
 use Rattle.orders.specs.Answers.{fetchingAnswer}
-use Rattle.orders.specs.Results.{addOrder, removeOrder, carriedAnswer, doing, saying, listBy, takenAnswer, ranList, listThen}
-use Rattle.orders.proofs.Laws.{now-start, kept-says}
+use Rattle.orders.specs.Results.{addOrder, removeOrder, carriedAnswer, doing, saying, listBy, takenAnswer, changedAnswerBy, ranList, listIf, listThen}
+use Rattle.orders.proofs.Laws.{kept-says}
 use Rattle.amended.specs.Histories.{through, along, following}
 use Rattle.amended.specs.Carried.{inTurn}
 use Rattle.amended.specs.Deeds.{Deed, Opens, Reads, Adds, Removes, Slots, Rounds, Reports, Saves, Fetches, Desk, openChecks, readChecks, firstChecks, wayAt, answers, leaves, leavesAll, listAfter, isClear, runs, ticketIn, ticketTold, ticketsTold, CountUp}
 use Rattle.amended.specs.Fates.{Fate, Waits, Answered, Gone, toldOf, ran, handedOut, fateNext, fateThrough}
 use Rattle.amended.proofs.Carrying.{turn-says}
 use Rattle.amended.proofs.Sounding.{list-length}
-use Rattle.amended.proofs.Answering.{add-way, remove-way, add-within, remove-within}
+use Rattle.amended.proofs.Answering.{clash, TakenBy, firsts, removeFirsts, add-taken, remove-taken, add-within, remove-within}
 use Rattle.amended.proofs.Projecting as projecting
-
-clash : {P : Type 0} {b : Bool} → b ≡ true → b ≡ false → P
-clash t f = let z : _≡_ {A = ℕ} 0 1 = cc in absurd (omega arith)
 
 -- ---- the list stays in order
 
-order-in-order : (L : List ℕ) (o : Order) (k : Way) → InOrder L → InOrder (listBy k (takenList L o) L)
+pub order-in-order : (L : List ℕ) (o : Order) (k : Way) → InOrder L → InOrder (listBy k (takenList L o) L)
 order-in-order L o (way.Refused r) is = is
 order-in-order L o way.Wait is = take-in-order L is o
 order-in-order L o way.Now is = is
 
-check-in-order : (k : Check) (F L : List ℕ) → InOrder F → InOrder L → InOrder (ifClear k F L)
+pub check-in-order : (k : Check) (F L : List ℕ) → InOrder F → InOrder L → InOrder (ifClear k F L)
 check-in-order Clear F L f l = f
 check-in-order (Refused r) F L f l = l
 
-then-in-order : (d : Drive) (B L : List ℕ) → InOrder L → InOrder (listThen d B L)
-unfolding listThen ranList
-then-in-order d B L is = by-bool (eqb (d .position) 1)
-    (λ t. rw t (run-in-order L is (doing d) (saying d) B))
-    (λ f. rw f is)
+pub if-in-order : (begins : Bool) (d : Drive) (B L : List ℕ) → InOrder L → InOrder (listIf begins d B L)
+unfolding ranList
+if-in-order true d B L is = run-in-order L is (doing d) (saying d) B
+if-in-order false d B L is = is
 
-in-order-next : (a : Deed) (s : Desk) → InOrder (s .list) → InOrder (listAfter a s)
+pub in-order-next : (a : Deed) (s : Desk) → InOrder (s .list) → InOrder (listAfter a s)
+unfolding listThen
 in-order-next (Opens C) s is = check-in-order (openChecks s C) (emptied (s .list)) (s .list) (empty-in-order (s .list) (is .long)) is
 in-order-next (Reads S) s is = check-in-order (readChecks s S) (emptied (s .list)) (s .list) (empty-in-order (s .list) (is .long)) is
 in-order-next (Adds x w) s is = order-in-order (s .list) (addOrder x w) (wayAt (addOrder x w) s) is
 in-order-next (Removes x) s is = order-in-order (s .list) (removeOrder x) (wayAt (removeOrder x) s) is
 in-order-next Slots s is =
-    check-in-order (firstChecks s) (listThen (s .state .drive) (s .state .board) (s .list)) (s .list) (then-in-order (s .state .drive) (s .state .board) (s .list) is) is
+    check-in-order (firstChecks s) (listThen (s .state .drive) (s .state .board) (s .list)) (s .list)
+    (if-in-order (eqb (s .state .drive .position) 1) (s .state .drive) (s .state .board) (s .list) is) is
 in-order-next (Rounds O) s is = is
 in-order-next (Reports x) s is = is
 in-order-next (Saves O) s is = is
@@ -78,28 +76,27 @@ in-order s is deeds = projecting.always leaves (λ t. InOrder (t .list)) in-orde
 not-thirteen : (ns : List ℕ) (n : ℕ) → zeroOr n ns ≡ true → zeroOr 13 ns ≡ false → eqb n 13 ≡ false
 not-thirteen ns n m f = other-number ns n 13 m f
 
-module _ (s : Desk) (x w : ℕ) where
-  add-other : (k : Way) → wayAt (addOrder x w) s ≡ k → (k ≡ way.Wait → ⊥) → eqb (answers (Adds x w) s .number) 13 ≡ false
-  unfolding carriedAnswer zeroOr
-  add-other (way.Refused r) e n = rw e (not-thirteen (1 ∷ 2 ∷ 3 ∷ 5 ∷ 6 ∷ 7 ∷ []) (numberOf r) (add-way s x w r e) refl)
-  add-other way.Wait e n = absurd (n refl)
-  add-other way.Now e n =
-      let d = s .state .drive in
-      rw e (not-thirteen (1 ∷ 2 ∷ 3 ∷ 5 ∷ 6 ∷ 7 ∷ 8 ∷ 10 ∷ []) (numberBy (addCheck d (s .state .board) x w))
-      (add-within d (s .state .board) x w (now-start d (s .state .board) (s .list) (addOrder x w) e)) refl)
+module _ (s : Desk) where
+  abbrev d : Drive
+  d = s .state .drive
 
-module _ (s : Desk) (x : ℕ) where
-  remove-other : (k : Way) → wayAt (removeOrder x) s ≡ k → (k ≡ way.Wait → ⊥) → eqb (answers (Removes x) s .number) 13 ≡ false
+  abbrev B : List ℕ
+  B = s .state .board
+
+  pub add-other : (x w : ℕ) (k : Way) → TakenBy firsts d k → (k ≡ way.Wait → ⊥) → eqb (changedAnswerBy k d B (s .list) (addOrder x w) .number) 13 ≡ false
   unfolding carriedAnswer zeroOr
-  remove-other (way.Refused r) e n = rw e (not-thirteen (1 ∷ 2 ∷ 3 ∷ 5 ∷ 6 ∷ []) (numberOf r) (remove-way s x r e) refl)
-  remove-other way.Wait e n = absurd (n refl)
-  remove-other way.Now e n =
-      let d = s .state .drive in
-      rw e (not-thirteen (1 ∷ 2 ∷ 3 ∷ 5 ∷ 6 ∷ 9 ∷ []) (numberBy (removeCheck d (s .state .board) x))
-      (remove-within d (s .state .board) x (now-start d (s .state .board) (s .list) (removeOrder x) e)) refl)
+  add-other x w (way.Refused r) t n = not-thirteen firsts (numberOf r) (t .within r refl) refl
+  add-other x w way.Wait t n = absurd (n refl)
+  add-other x w way.Now t n = not-thirteen (1 ∷ 2 ∷ 3 ∷ 5 ∷ 6 ∷ 7 ∷ 8 ∷ 10 ∷ []) (numberBy (addCheck d B x w)) (add-within d B x w (t .first refl)) refl
+
+  pub remove-other : (x : ℕ) (k : Way) → TakenBy removeFirsts d k → (k ≡ way.Wait → ⊥) → eqb (changedAnswerBy k d B (s .list) (removeOrder x) .number) 13 ≡ false
+  unfolding carriedAnswer zeroOr
+  remove-other x (way.Refused r) t n = not-thirteen removeFirsts (numberOf r) (t .within r refl) refl
+  remove-other x way.Wait t n = absurd (n refl)
+  remove-other x way.Now t n = not-thirteen (1 ∷ 2 ∷ 3 ∷ 5 ∷ 6 ∷ 9 ∷ []) (numberBy (removeCheck d B x)) (remove-within d B x (t .first refl)) refl
 
 -- what a change tells, and where the tickets then stand
-way-count : (a : Answer) (L : List ℕ) (o : Order) (k : Way) → 259 ≤ length L
+pub way-count : (a : Answer) (L : List ℕ) (o : Order) (k : Way) → 259 ≤ length L
     → ((k ≡ way.Wait → ⊥) → eqb (a .number) 13 ≡ false) → (k ≡ way.Wait → a ≡ takenAnswer L)
     → (ts : List ℕ) → CountUp (lastTicket (listBy k (takenList L o) L)) ts → CountUp (lastTicket L) (ticketIn a ++ ts)
 unfolding CountUp
@@ -111,27 +108,28 @@ way-count a L o way.Wait l n m ts c = by-bool (full L)
     let t : lastTicket (takenList L o) ≡ lastTicket L + 1 = take-last L l o ∙ rw f refl in
     rw (m refl, f) (refl, rw t at c))
 
-check-count : (k : Check) (F L : List ℕ) (ts : List ℕ) → lastTicket F ≡ lastTicket L → CountUp (lastTicket (ifClear k F L)) ts → CountUp (lastTicket L) ts
+pub check-count : (k : Check) (F L : List ℕ) (ts : List ℕ) → lastTicket F ≡ lastTicket L → CountUp (lastTicket (ifClear k F L)) ts → CountUp (lastTicket L) ts
 check-count Clear F L ts e c = rw e at c
 check-count (Refused r) F L ts e c = c
 
-then-last : (d : Drive) (B L : List ℕ) → 259 ≤ length L → lastTicket (listThen d B L) ≡ lastTicket L
-unfolding listThen ranList
-then-last d B L l = by-bool (eqb (d .position) 1)
-    (λ t. rw t (run-last L l (doing d) (saying d) B))
-    (λ f. rw f refl)
+pub if-last : (begins : Bool) (d : Drive) (B L : List ℕ) → 259 ≤ length L → lastTicket (listIf begins d B L) ≡ lastTicket L
+unfolding ranList
+if-last true d B L l = run-last L l (doing d) (saying d) B
+if-last false d B L l = refl
 
-count-next : (a : Deed) (s : Desk) (ts : List ℕ) → 259 ≤ length (s .list) → CountUp (lastTicket (listAfter a s)) ts → CountUp (lastTicket (s .list)) (ticketTold a s ++ ts)
+pub count-next : (a : Deed) (s : Desk) (ts : List ℕ) → 259 ≤ length (s .list) → CountUp (lastTicket (listAfter a s)) ts → CountUp (lastTicket (s .list)) (ticketTold a s ++ ts)
+unfolding listThen
 count-next (Opens C) s ts l c = check-count (openChecks s C) (emptied (s .list)) (s .list) ts (empty-last (s .list) l) c
 count-next (Reads S) s ts l c = check-count (readChecks s S) (emptied (s .list)) (s .list) ts (empty-last (s .list) l) c
 count-next (Adds x w) s ts l c =
     let k = wayAt (addOrder x w) s in
-    way-count (answers (Adds x w) s) (s .list) (addOrder x w) k l (add-other s x w k refl) (λ e. rw e refl) ts c
+    way-count (answers (Adds x w) s) (s .list) (addOrder x w) k l (add-other s x w k (add-taken s x w)) (λ e. rw e refl) ts c
 count-next (Removes x) s ts l c =
     let k = wayAt (removeOrder x) s in
-    way-count (answers (Removes x) s) (s .list) (removeOrder x) k l (remove-other s x k refl) (λ e. rw e refl) ts c
+    way-count (answers (Removes x) s) (s .list) (removeOrder x) k l (remove-other s x k (remove-taken s x)) (λ e. rw e refl) ts c
 count-next Slots s ts l c =
-    check-count (firstChecks s) (listThen (s .state .drive) (s .state .board) (s .list)) (s .list) ts (then-last (s .state .drive) (s .state .board) (s .list) l) c
+    check-count (firstChecks s) (listThen (s .state .drive) (s .state .board) (s .list)) (s .list) ts
+    (if-last (eqb (s .state .drive .position) 1) (s .state .drive) (s .state .board) (s .list) l) c
 count-next (Rounds O) s ts l c = c
 count-next (Reports x) s ts l c = c
 count-next (Saves O) s ts l c = c
@@ -173,10 +171,10 @@ pub record Follows (t : ℕ) (o : Order) (ahead : List Order) (ψ : Fate) (s : D
 
 module _ (t : ℕ) (o : Order) (ahead : List Order) where
   -- the list is as it was
-  still : (ψ : Fate) (s u : Desk) → u .list ≡ s .list → Follows t o ahead ψ s → Follows t o ahead ψ u
+  pub still : (ψ : Fate) (s u : Desk) → u .list ≡ s .list → Follows t o ahead ψ s → Follows t o ahead ψ u
   still ψ s u e f = record { φ = f .φ; stands = rw e (f .stands); same = f .same }
 
-  order-follows : (ψ : Fate) (s u : Desk) (p : Order) (k : Way) → u .list ≡ listBy k (takenList (s .list) p) (s .list) → Follows t o ahead ψ s → Follows t o ahead ψ u
+  pub order-follows : (ψ : Fate) (s u : Desk) (p : Order) (k : Way) → u .list ≡ listBy k (takenList (s .list) p) (s .list) → Follows t o ahead ψ s → Follows t o ahead ψ u
   order-follows ψ s u p (way.Refused r) e f = still ψ s u e f
   order-follows ψ s u p way.Wait e f = record { φ = f .φ; stands = rw e (stands-take t o ahead (f .φ) (s .list) (f .stands) p); same = f .same }
   order-follows ψ s u p way.Now e f = still ψ s u e f
@@ -208,13 +206,11 @@ module _ (t : ℕ) (o : Order) (ahead : List Order) where
         same = ran-numbers r (f .φ) ∙ rw (turn, f .same) refl;
       }
 
-  slot-follows : (ψ : Fate) (s u : Desk) (k : Check) → u .list ≡ ifClear k (listThen (s .state .drive) (s .state .board) (s .list)) (s .list)
-      → Follows t o ahead ψ s → Follows t o ahead (cond (isClear k && eqb (s .state .drive .position) 1) (ran (inTurn (s .state) ahead o) ψ) ψ) u
-  unfolding listThen
-  slot-follows ψ s u (Refused r) e f = still ψ s u e f
-  slot-follows ψ s u Clear e f = by-bool (eqb (s .state .drive .position) 1)
-      (λ y. rw y (run-follows ψ s u (e ∙ rw y refl) f))
-      (λ y. rw y (still ψ s u (e ∙ rw y refl) f))
+  pub slot-follows : (ψ : Fate) (s u : Desk) (k : Check) (begins : Bool) → u .list ≡ ifClear k (listIf begins (s .state .drive) (s .state .board) (s .list)) (s .list)
+      → Follows t o ahead ψ s → Follows t o ahead (cond (isClear k && begins) (ran (inTurn (s .state) ahead o) ψ) ψ) u
+  slot-follows ψ s u (Refused r) begins e f = still ψ s u e f
+  slot-follows ψ s u Clear true e f = run-follows ψ s u e f
+  slot-follows ψ s u Clear false e f = still ψ s u e f
 
   -- a fetch of its own ticket takes the answer
   handed-numbers : (φ : list.Fate) → inNumbers (list.handedOut φ) ≡ handedOut (inNumbers φ)
@@ -230,12 +226,13 @@ module _ (t : ℕ) (o : Order) (ahead : List Order) where
       (λ y. rw y (record { φ = list.handedOut (f .φ); stands = rw y at st; same = handed-numbers (f .φ) ∙ ap handedOut (f .same) }))
       (λ y. rw y (record { φ = f .φ; stands = rw y at st; same = f .same }))
 
-  follows-next : (ψ : Fate) (a : Deed) (s : Desk) → Follows t o ahead ψ s → Follows t o ahead (fateNext t o ahead ψ a s) (leaves a s)
+  pub follows-next : (ψ : Fate) (a : Deed) (s : Desk) → Follows t o ahead ψ s → Follows t o ahead (fateNext t o ahead ψ a s) (leaves a s)
+  unfolding listThen
   follows-next ψ (Opens C) s f = restart-follows ψ s (leaves (Opens C) s) (openChecks s C) refl f
   follows-next ψ (Reads S) s f = restart-follows ψ s (leaves (Reads S) s) (readChecks s S) refl f
   follows-next ψ (Adds x w) s f = order-follows ψ s (leaves (Adds x w) s) (addOrder x w) (wayAt (addOrder x w) s) refl f
   follows-next ψ (Removes x) s f = order-follows ψ s (leaves (Removes x) s) (removeOrder x) (wayAt (removeOrder x) s) refl f
-  follows-next ψ Slots s f = slot-follows ψ s (leaves Slots s) (firstChecks s) refl f
+  follows-next ψ Slots s f = slot-follows ψ s (leaves Slots s) (firstChecks s) (eqb (s .state .drive .position) 1) refl f
   follows-next ψ (Rounds O) s f = still ψ s (leaves (Rounds O) s) refl f
   follows-next ψ (Reports x) s f = still ψ s (leaves (Reports x) s) refl f
   follows-next ψ (Saves O) s f = still ψ s (leaves (Saves O) s) refl f
@@ -248,11 +245,13 @@ module _ (t : ℕ) (o : Order) (ahead : List Order) where
   told-numbers (list.Answered q) = refl
   told-numbers list.Gone = refl
 
+  pub told : (ψ : Fate) (s : Desk) → Follows t o ahead ψ s → answers (Fetches t) s ≡ toldOf t ψ
+  told ψ s f = ap fetchingAnswer (stands-told t o ahead (f .φ) (s .list) (f .stands)) ∙ told-numbers (f .φ) ∙ ap (toldOf t) (f .same)
+
   pub followed : (ψ : Fate) (s : Desk) → Follows t o ahead ψ s → (between : List Deed)
       → answers (Fetches t) (leavesAll s between) ≡ toldOf t (fateThrough t o ahead ψ s between)
   followed ψ s f between =
-      let g = projecting.ever leaves (fateNext t o ahead) (Follows t o ahead) follows-next ψ s f between in
-      ap fetchingAnswer (stands-told t o ahead (g .φ) (leavesAll s between .list) (g .stands)) ∙ told-numbers (g .φ) ∙ ap (toldOf t) (g .same)
+      told (fateThrough t o ahead ψ s between) (leavesAll s between) (projecting.ever leaves (fateNext t o ahead) (Follows t o ahead) follows-next ψ s f between)
 
 -- an order that is taken waits
 pub taken-follows : (s : Desk) (o : Order) (u : Desk) → InOrder (s .list) → Fits o → full (s .list) ≡ false → u .list ≡ takenList (s .list) o
@@ -261,7 +260,7 @@ unfolding inNumbers
 taken-follows s o u is fits free e = record { φ = list.Waits; stands = rw e (stands-taken (s .list) o is free fits); same = refl }
 
 -- a change that answers 13 is on the list
-way-thirteen : (a : Answer) (L : List ℕ) (k : Way) → a .number ≡ 13 → ((k ≡ way.Wait → ⊥) → eqb (a .number) 13 ≡ false) → (k ≡ way.Wait → a ≡ takenAnswer L)
+pub way-thirteen : (a : Answer) (L : List ℕ) (k : Way) → a .number ≡ 13 → ((k ≡ way.Wait → ⊥) → eqb (a .number) 13 ≡ false) → (k ≡ way.Wait → a ≡ takenAnswer L)
     → (k ≡ way.Wait) × (full L ≡ false)
 way-thirteen a L (way.Refused r) h n m = clash (eq-eqb (a .number) 13 h) (n (λ e. let z : _≡_ {A = ℕ} 0 1 = cc in omega arith))
 way-thirteen a L way.Now h n m = clash (eq-eqb (a .number) 13 h) (n (λ e. let z : _≡_ {A = ℕ} 0 1 = cc in omega arith))
@@ -273,7 +272,7 @@ way-thirteen a L way.Wait h n m = (
 )
 
 pub add-thirteen : (s : Desk) (x w : ℕ) → answers (Adds x w) s .number ≡ 13 → (wayAt (addOrder x w) s ≡ way.Wait) × (full (s .list) ≡ false)
-add-thirteen s x w h = way-thirteen (answers (Adds x w) s) (s .list) (wayAt (addOrder x w) s) h (add-other s x w (wayAt (addOrder x w) s) refl) (λ e. rw e refl)
+add-thirteen s x w h = way-thirteen (answers (Adds x w) s) (s .list) (wayAt (addOrder x w) s) h (add-other s x w (wayAt (addOrder x w) s) (add-taken s x w)) (λ e. rw e refl)
 
 pub remove-thirteen : (s : Desk) (x : ℕ) → answers (Removes x) s .number ≡ 13 → (wayAt (removeOrder x) s ≡ way.Wait) × (full (s .list) ≡ false)
-remove-thirteen s x h = way-thirteen (answers (Removes x) s) (s .list) (wayAt (removeOrder x) s) h (remove-other s x (wayAt (removeOrder x) s) refl) (λ e. rw e refl)
+remove-thirteen s x h = way-thirteen (answers (Removes x) s) (s .list) (wayAt (removeOrder x) s) h (remove-other s x (wayAt (removeOrder x) s) (remove-taken s x)) (λ e. rw e refl)

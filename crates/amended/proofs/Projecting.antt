@@ -2,10 +2,12 @@
 -- and is kept by each call holds ever after.
 -- Assumes nothing.
 use mathlib.Core.Path.{_≡_, refl, sym, ap, ap₂, _∙_}
-use mathlib.Core.List.{List, [], _∷_, _++_}
-use Prim.Native.Nat.{ℕ}
-use Rattle.demands.specs.Histories.{Act, State, after, log}
-use Rattle.demands.specs.Rounds.{names}
+use mathlib.Core.List.{List, [], _∷_, _++_, append-assoc}
+use Prim.Native.Nat.{ℕ, zero, suc}
+use native.Mathlib.Omega.{arith}
+use lib.ListN.{length, replicate, length-append}
+use Rattle.demands.specs.Histories.{Act, Slot, State, after, log}
+use Rattle.demands.specs.Rounds.{names, namesFrom}
 use Rattle.demands.proofs.Laws.{after-append, names-append}
 use Rattle.amended.specs.Histories.{through, along, following, Each}
 
@@ -28,6 +30,21 @@ module _ {A S : Type 0} (does : A → S → S) where
   through-append s [] ys = refl
   through-append s (x ∷ xs) ys = through-append (does x s) xs ys
 
+  -- the same call over and over: each keeps to OK, and where each serves one name there are as many
+  pub row-whole : (OK : A → S → Type 0) (a : A) → ((s : S) → OK a s) → (n : ℕ) (s : S) → Each does OK s (replicate n a)
+  unfolding Each
+  row-whole OK a ok zero s = tt
+  row-whole OK a ok (suc n) s = (ok s, row-whole OK a ok n (does a s))
+
+  pub row-many : {H : Type 0} (next : H → A → S → H) (P : H → S → Type 0) → ((h : H) (a : A) (s : S) → P h s → P (next h a s) (does a s))
+      → (served : A → S → List ℕ) (a : A) → ((h : H) (s : S) → P h s → length (served a s) ≡ 1)
+      → (n : ℕ) (h : H) (s : S) → P h s → length (along does served s (replicate n a)) ≡ n
+  unfolding along
+  row-many next P keeps served a once zero h s p = refl
+  row-many next P keeps served a once (suc n) h s p =
+      length-append (served a s) (along does served (does a s) (replicate n a))
+      ∙ rw (once h s p, row-many next P keeps served a once n (next h a s) (does a s) (keeps h a s p)) (omega arith)
+
   -- a set of calls that stand for plain calls
   module _ (shown : S → State) (stands : A → S → List Act) (OK : A → S → Type 0)
       (same : (a : A) (s : S) → OK a s → shown (does a s) ≡ after (shown s) (stands a s)) where
@@ -48,3 +65,24 @@ module _ {A S : Type 0} (does : A → S → S) where
         (names-projected served said (does a s) rest (ok .1)
         ∙ ap (λ (t : State). names (log t (along does stands (does a s) rest))) (same a s (ok .0)))
         ∙ sym (names-append (shown s) (stands a s) (along does stands (does a s) rest))
+
+    -- calls from one that stands for plain calls and then a slot: they lead where the plain calls from that slot on lead, and where those before it serve nothing they
+    -- serve the same names
+    module _ (a : A) (s : S) (rest : List A) (before : List Act) (e : stands a s ≡ before ++ (Slot ∷ [])) (ok : Each does OK s (a ∷ rest)) where
+      abbrev later : List Act
+      later = along does stands (does a s) rest
+
+      from-slot : along does stands s (a ∷ rest) ≡ before ++ (Slot ∷ later)
+      unfolding along
+      from-slot = ap (λ (acts : List Act). acts ++ later) e ∙ append-assoc before (Slot ∷ []) later
+
+      pub leads-from-slot : shown (through does s (a ∷ rest)) ≡ after (after (shown s) before) (Slot ∷ along does stands (does a s) rest)
+      leads-from-slot = projected s (a ∷ rest) ok ∙ ap (after (shown s)) from-slot ∙ after-append (shown s) before (Slot ∷ later)
+
+      pub names-from-slot : (served : A → S → List ℕ) → ((b : A) (u : S) → OK b u → served b u ≡ names (log (shown u) (stands b u))) → names (log (shown s) before) ≡ []
+          → along does served s (a ∷ rest) ≡ namesFrom (after (shown s) before) (along does stands (does a s) rest)
+      names-from-slot served said none =
+          names-projected served said s (a ∷ rest) ok
+          ∙ ap (λ (acts : List Act). names (log (shown s) acts)) from-slot
+          ∙ names-append (shown s) before (Slot ∷ later)
+          ∙ rw none refl

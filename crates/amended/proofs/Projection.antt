@@ -16,7 +16,7 @@ use Rattle.calls.specs.Refusals.{slotCheck}
 use Rattle.calls.specs.Answers.{Answer, answered}
 use Rattle.calls.specs.Results.{ifClear, movedOn, servedName, servedLeaf, servedPassed, servedRound}
 use Rattle.calls.proofs.Laws.{by-bool, number-some}
-use Rattle.demands.specs.Histories.{Act, Add, Remove, Slot, State, does, says, after, log}
+use Rattle.demands.specs.Histories.{Act, Add, Slot, State, does, says, after, log}
 use Rattle.demands.specs.Rounds.{names}
 use Rattle.demands.proofs.Laws.{stateAt, after-append, names-append}
 use Rattle.waiting.specs.declared.Order.{Order}
@@ -27,7 +27,7 @@ use Rattle.orders.specs.Results.{addOrder, removeOrder, carriedBoard, ranBoard,
 use Rattle.orders.proofs.Laws.{then-slot}
 use Rattle.amended.specs.Carried.{actOf, actsOf}
 use Rattle.amended.specs.Deeds.{Deed, Opens, Reads, Adds, Removes, Slots, Rounds, Reports, Saves, Fetches, Desk, openChecks, readChecks, firstChecks, wayAt, answers, leaves, leavesAll, isClear, restarts, Unbroken, due, madeBy, servedBy, standsFor, plain, nameServed, namesServed}
-use Rattle.amended.proofs.Carrying.{carry-one, carry-all, act-names, acts-names, add-says, remove-says}
+use Rattle.amended.proofs.Carrying.{carry-one, carry-all, act-names, acts-names, add-says}
 use Rattle.amended.proofs.Projecting as projecting
 
 -- the record and the board once the list has run
@@ -125,9 +125,6 @@ names-same = projecting.names-projected leaves (λ s. s .state) standsFor (λ a 
 -- a change that is made at once is answered what the plain call says
 pub add-made : (s : Desk) (x w : ℕ) → wayAt (addOrder x w) s ≡ way.Now → answers (Adds x w) s ≡ says (Add x w) (s .state)
 add-made s x w e = rw e (add-says (s .state) x w)
-
-pub remove-made : (s : Desk) (x : ℕ) → wayAt (removeOrder x) s ≡ way.Now → answers (Removes x) s ≡ says (Remove x) (s .state)
-remove-made s x e = rw e (remove-says (s .state) x)
 
 -- a slot that is not refused says what the plain slot says once the list has run
 pub slot-says : (s : Desk) → firstChecks s ≡ Clear → answers Slots s ≡ says Slot (ranState s)

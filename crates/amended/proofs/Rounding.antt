@@ -2,24 +2,25 @@
 -- Assumes nothing.
 use mathlib.Core.Path.{_≡_, refl, sym, ap, ap₂, subst, _∙_}
 use mathlib.Core.Bool.{true, false}
-use mathlib.Core.List.{List, [], _∷_, _++_, append-assoc}
-use Prim.Native.Nat.{ℕ, zero, suc, _+_, _-_, _≤_, _<_}
+use mathlib.Core.List.{List, [], _∷_, _++_}
+use Prim.Native.Nat.{ℕ, suc, _+_, _-_, _≤_, _<_}
 use native.Mathlib.Omega.{arith}
 use lib.ListN.{length, replicate}
 use Rattle.calls.specs.declared.Check.{Check}
 use Rattle.calls.specs.declared.Check.the-variants.{Clear, Refused}
-use Rattle.demands.specs.Histories.{Act, Slot, State, after, log}
+use Rattle.demands.specs.Histories.{Act, Slot, State, after}
 use Rattle.demands.specs.Holdings.{Stream}
-use Rattle.demands.specs.Rounds.{names, namesFrom}
+use Rattle.demands.specs.Rounds.{namesFrom}
 use Rattle.demands.specs.Rounds as rounds
-use Rattle.demands.proofs.Laws.{stateAt, Sound, reached, slot-clear, names-append, after-append}
+use Rattle.demands.proofs.Laws.{stateAt, Sound, reached, slot-clear, after-append}
 use Rattle.orders.proofs.Laws.{bounds-clear}
-use Rattle.amended.specs.Histories.{through, along, Each}
+use Rattle.amended.specs.Histories.{through, Each}
 use Rattle.amended.specs.Carried.{actsOf}
 use Rattle.amended.specs.Deeds.{Deed, Slots, Desk, firstChecks, answers, leaves, restarts, Unbroken, due, servedBy, standsFor, plain, nameServed, namesServed, FullRound}
 use Rattle.amended.specs.Holding.{heldNext, heldThen}
 use Rattle.amended.proofs.Carrying.{acts-names}
-use Rattle.amended.proofs.Projection.{ranState, due-state, projected-one, names-same}
+use Rattle.amended.proofs.Projection.{ranState, due-state, projected-one, names-one}
+use Rattle.amended.proofs.Projecting as projecting
 use Rattle.amended.proofs.Sounding.{Standing, standing-next}
 
 module _ (hs : List Stream) (s : Desk) (is : Standing hs s) where
@@ -36,15 +37,11 @@ module _ (hs : List Stream) (s : Desk) (is : Standing hs s) where
 
 -- ---- C slots
 
-slots-whole : (n : ℕ) (s : Desk) → Unbroken s (replicate n Slots)
-unfolding Each
-slots-whole zero s = tt
-slots-whole (suc n) s = (refl, slots-whole n (leaves Slots s))
+pub slots-whole : (n : ℕ) (s : Desk) → Unbroken s (replicate n Slots)
+slots-whole = projecting.row-whole leaves (λ a t. restarts a t ≡ false) Slots (λ t. refl)
 
-slots-many : (n : ℕ) (hs : List Stream) (s : Desk) → Standing hs s → length (namesServed s (replicate n Slots)) ≡ n
-unfolding along
-slots-many zero hs s is = refl
-slots-many (suc n) hs s is = rw (slot-served hs s is) (ap suc (slots-many n (heldNext hs Slots s) (leaves Slots s) (standing-next hs Slots s is)))
+pub slots-many : (n : ℕ) (hs : List Stream) (s : Desk) → Standing hs s → length (namesServed s (replicate n Slots)) ≡ n
+slots-many = projecting.row-many leaves heldNext Standing standing-next nameServed Slots (λ gs t st. rw (slot-served gs t st) refl)
 
 pub slots-full : (hs : List Stream) (s : Desk) → Standing hs s → s .state .drive .position ≡ 1 → FullRound s (replicate (s .state .drive .capacity - 1) Slots)
 slots-full hs s is first =
@@ -57,19 +54,23 @@ slots-full hs s is first =
 clear-served : (k : Check) (before : List Act) → k ≡ Clear → servedBy k before ≡ before ++ (Slot ∷ [])
 clear-served k before e = rw e refl
 
-module _ (hs : List Stream) (s : Desk) (is : Standing hs s) (rest : List Deed) (full : FullRound s rest) where
+module _ (hs : List Stream) (s : Desk) (is : Standing hs s) (rest : List Deed) where
   -- the plain calls after the first slot
   abbrev later : List Act
   later = plain (leaves Slots s) rest
 
-  pub round-names : namesServed s (Slots ∷ rest) ≡ namesFrom (ranState s) later
-  unfolding along Each
-  round-names =
-      names-same s (Slots ∷ rest) (refl, full .whole)
-      ∙ ap (λ (acts : List Act). names (log (s .state) (acts ++ later))) (clear-served (firstChecks s) (actsOf (due s)) (first-clear hs s is))
-      ∙ ap (λ (acts : List Act). names (log (s .state) acts)) (append-assoc (actsOf (due s)) (Slot ∷ []) later)
-      ∙ names-append (s .state) (actsOf (due s)) (Slot ∷ later)
-      ∙ rw (acts-names (s .state) (due s), due-state s) refl
+  -- a slot and the calls that follow serve what plain calls serve from where the list has run
+  pub first-names : Unbroken (leaves Slots s) rest → namesServed s (Slots ∷ rest) ≡ namesFrom (ranState s) (plain (leaves Slots s) rest)
+  unfolding Each
+  first-names whole =
+      projecting.names-from-slot leaves (λ t. t .state) standsFor (λ a t. restarts a t ≡ false) projected-one
+      Slots s rest (actsOf (due s)) (clear-served (firstChecks s) (actsOf (due s)) (first-clear hs s is)) (refl, whole)
+      nameServed names-one (acts-names (s .state) (due s))
+      ∙ rw (due-state s) refl
 
-  pub plain-round : rounds.FullRound (ranState s) later
-  plain-round = record { first = full .first; slots = ap length (sym round-names) ∙ full .slots }
+  module _ (full : FullRound s rest) where
+    pub round-names : namesServed s (Slots ∷ rest) ≡ namesFrom (ranState s) later
+    round-names = first-names (full .whole)
+
+    pub plain-round : rounds.FullRound (ranState s) later
+    plain-round = record { first = full .first; slots = ap length (sym round-names) ∙ full .slots }

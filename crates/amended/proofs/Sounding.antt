@@ -30,7 +30,7 @@ use Rattle.waiting.specs.Carrying.{outcomes}
 use Rattle.waiting.proofs.Laws.{take-length, run-length, fetch-length, empty-length}
 use Rattle.orders.specs.declared.Way.{Way}
 use Rattle.orders.specs.declared.Way.the-variants as way
-use Rattle.orders.specs.Results.{addOrder, removeOrder, doing, saying, listBy, ranList, listThen}
+use Rattle.orders.specs.Results.{addOrder, removeOrder, doing, saying, listBy, ranList, listIf, listThen}
 use Rattle.orders.proofs.Laws.{lent-open, read-accepts}
 use Rattle.amended.specs.Deeds.{Deed, Opens, Reads, Adds, Removes, Slots, Rounds, Reports, Saves, Fetches, Desk, openChecks, readChecks, firstChecks, wayAt, leaves, leavesAll, listAfter, restarts, standsFor}
 use Rattle.amended.specs.Holding.{onLeaves, onBoard, heldNext, heldThrough, Ready}
@@ -75,27 +75,27 @@ ready-sound s is = record {
 
 -- ---- the list keeps its length
 
-by-way : (L : List ℕ) (o : Order) (k : Way) → length (listBy k (takenList L o) L) ≡ length L
+pub by-way : (L : List ℕ) (o : Order) (k : Way) → length (listBy k (takenList L o) L) ≡ length L
 by-way L o (way.Refused r) = refl
 by-way L o way.Wait = take-length L o
 by-way L o way.Now = refl
 
-by-check : (k : Check) (F L : List ℕ) → length F ≡ length L → length (ifClear k F L) ≡ length L
+pub by-check : (k : Check) (F L : List ℕ) → length F ≡ length L → length (ifClear k F L) ≡ length L
 by-check Clear F L e = e
 by-check (Refused r) F L e = refl
 
-then-length : (d : Drive) (B L : List ℕ) → length (listThen d B L) ≡ length L
-unfolding listThen ranList
-then-length d B L = by-bool (eqb (d .position) 1)
-    (λ t. rw t (run-length L (outcomes (doing d) (saying d) B (waiting L))))
-    (λ f. rw f refl)
+pub if-length : (begins : Bool) (d : Drive) (B L : List ℕ) → length (listIf begins d B L) ≡ length L
+unfolding ranList
+if-length true d B L = run-length L (outcomes (doing d) (saying d) B (waiting L))
+if-length false d B L = refl
 
 pub list-length : (a : Deed) (s : Desk) → length (listAfter a s) ≡ length (s .list)
+unfolding listThen
 list-length (Opens C) s = by-check (openChecks s C) (emptied (s .list)) (s .list) (empty-length (s .list))
 list-length (Reads S) s = by-check (readChecks s S) (emptied (s .list)) (s .list) (empty-length (s .list))
 list-length (Adds x w) s = by-way (s .list) (addOrder x w) (wayAt (addOrder x w) s)
 list-length (Removes x) s = by-way (s .list) (removeOrder x) (wayAt (removeOrder x) s)
-list-length Slots s = by-check (firstChecks s) (listThen (s .state .drive) (s .state .board) (s .list)) (s .list) (then-length (s .state .drive) (s .state .board) (s .list))
+list-length Slots s = by-check (firstChecks s) (listThen (s .state .drive) (s .state .board) (s .list)) (s .list) (if-length (eqb (s .state .drive .position) 1) (s .state .drive) (s .state .board) (s .list))
 list-length (Rounds O) s = refl
 list-length (Reports x) s = refl
 list-length (Saves O) s = refl

@@ -4,3 +4,5 @@ pub mod Deeds
 pub mod Holding
 pub mod Refusing
 pub mod Fates
+pub mod Turns
+pub mod Sharing

@@ -115,14 +115,18 @@ joins (Saves O) r = false
 joins (Fetches t) r = false
 
 -- A call that is not done: it answers a number of its list, returns the record that it was given, leaves the board, the lent output and the list as they were, and
--- gives zeros for values; but ROOM says the idle leaves, and 13 the ticket, and a change that answers 13 has put its order on the list.
-pub record Refused (a : Deed) (s : Desk) : Type 0 where
-  pub number : zeroOr (answers a s .number) (mayAnswer a) ≡ true
-  pub record' : returned a s ≡ refusedRecord a (s .state .drive)
-  pub board : boardAfter a s ≡ s .state .board
-  pub list : joins a (answers a s) ≡ false → listAfter a s ≡ s .list
-  pub output : writes a s ≡ lent a
-  pub values : answers a s .values ≡ refusedValues a s (answers a s)
+-- gives zeros for values; but ROOM says the idle leaves, and 13 the ticket, and a change that answers 13 has put its order on the list. r is what it says, d
+-- the record it returns, E, F and O what it leaves of the board, the list and the output: for every set of calls.
+pub record RefusedBy (a : Deed) (s : Desk) (r : Answer) (d : Drive) (E F O : List ℕ) : Type 0 where
+  pub number : zeroOr (r .number) (mayAnswer a) ≡ true
+  pub record' : d ≡ refusedRecord a (s .state .drive)
+  pub board : E ≡ s .state .board
+  pub list : joins a r ≡ false → F ≡ s .list
+  pub output : O ≡ lent a
+  pub values : r .values ≡ refusedValues a s r
+
+abbrev pub Refused : Deed → Desk → Type 0
+Refused a s = RefusedBy a s (answers a s) (returned a s) (boardAfter a s) (listAfter a s) (writes a s)
 
 -- A call whose 5 is of the board as it stands: read's is of the sheet's, and fetch hands out what was answered before.
 abbrev pub ofBoard : Deed → Bool

@@ -1,4 +1,5 @@
-// The functions that C and Rust link: every call on a slot board with its waiting list, and save and read. A slice is a pointer and then a length.
+// The functions that C and Rust link: every call on a slot board with its waiting list, and save and read; in `pair` those for two drives on one board.
+// A slice is a pointer and then a length.
 ghost use mathlib.Core.Path.{_≡_};
 ghost use lib.ListN.{length};
 ghost use Rattle.calls.specs.Answers.{openingAnswer, servingAnswer, roundingAnswer, reportAnswer};
@@ -18,6 +19,8 @@ use orders::Ordering;
 use sheets::Loading;
 use sheets::Saving;
 use waiting::Fetching;
+
+pub mod pair;
 
 // What a call says: the answer's number, 0 for done, and its values in the order of document 01; a value that an answer does not have is 0. 64 bits each, so
 // that every value there is has room: a leaf, a round number, a ticket.
@@ -87,7 +90,7 @@ fn said_opening(answer: Opening) -> Said
 }
 
 // The answer of add and of remove.
-fn said_ordering(answer: Ordering) -> Said
+pub fn said_ordering(answer: Ordering) -> Said
     ensures { λ r. ⌜ r ≡ saidOf (orderingAnswer answer) ⌝ }
 {
     match answer {
@@ -111,7 +114,7 @@ fn said_fetching(answer: Fetching) -> Said
 }
 
 // The answer of slot.
-fn said_serving(answer: Serving) -> Said
+pub fn said_serving(answer: Serving) -> Said
     ensures { λ r. ⌜ r ≡ saidOf (servingAnswer answer) ⌝ }
 {
     match answer {
@@ -126,7 +129,7 @@ fn said_serving(answer: Serving) -> Said
 }
 
 // The answer of round.
-fn said_rounding(answer: Rounding) -> Said
+pub fn said_rounding(answer: Rounding) -> Said
     ensures { λ r. ⌜ r ≡ saidOf (roundingAnswer answer) ⌝ }
 {
     match answer {
@@ -136,7 +139,7 @@ fn said_rounding(answer: Rounding) -> Said
 }
 
 // The answer of report.
-fn said_report(answer: Report) -> Said
+pub fn said_report(answer: Report) -> Said
     ensures { λ r. ⌜ r ≡ saidOf (reportAnswer answer) ⌝ }
 {
     match answer {
@@ -150,7 +153,7 @@ fn said_report(answer: Report) -> Said
 }
 
 // The answer of save.
-fn said_saving(answer: Saving) -> Said
+pub fn said_saving(answer: Saving) -> Said
     ensures { λ r. ⌜ r ≡ saidOf (sheet_results.savingAnswer answer) ⌝ }
 {
     match answer {

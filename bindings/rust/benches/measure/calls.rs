@@ -3,11 +3,12 @@ use crate::clock::{median, now};
 use paper::random::Random;
 use paper::trial::{Calls, Hand, Letter};
 use paper::waiting::{self, LENGTH, PLACES};
-use paper::{at, hand, letter};
+use paper::{at, hand, letter, Records};
 use std::hint::black_box;
 
-/// "start" is a slot at the start of a round with nothing waiting, "run" one that carries out as many orders as can wait, half of them adds.
-pub const CALLS: [&str; 9] = ["slot", "start", "run", "add", "remove", "round", "report", "save", "read"];
+/// "pair" is a slot where two drives share the board, "start" one at the start of a round with nothing waiting, "run" one that carries out as many
+/// orders as can wait, half of them adds.
+pub const CALLS: [&str; 10] = ["slot", "pair", "start", "run", "add", "remove", "round", "report", "save", "read"];
 
 /// Weights of n streams that sum to `total`: a few large, many small, each at least 1.
 pub fn weights(n: usize, total: usize, random: &mut Random) -> Vec<u32> {
@@ -75,46 +76,57 @@ fn once(calls: &dyn Calls, call: &str, board: &[u16], names: &[u16], few: bool) 
             let mut at = record;
             timed(many, &mut || {
                 for _ in 0..many {
-                    at = black_box(calls.slot(at, black_box(&mut boards[0]), &mut list)).record;
+                    at = black_box(calls.slot(at.into(), black_box(&mut boards[0]), &mut list)).record;
+                }
+            })
+        }
+        "pair" => {
+            let many = if few { c.min(64) } else { (4 * c).max(4000) };
+            let (mut own, mut other) = (record, record);
+            timed(many, &mut || {
+                for _ in 0..many {
+                    let records = Records { own, other: Some(other) };
+                    own = other;
+                    other = black_box(calls.slot(records, black_box(&mut boards[0]), &mut list)).record;
                 }
             })
         }
         "start" => timed(4000, &mut || {
             for _ in 0..4000 {
-                black_box(calls.slot(record, black_box(&mut boards[0]), &mut list));
+                black_box(calls.slot(record.into(), black_box(&mut boards[0]), &mut list));
             }
         }),
         "run" => {
             let mut lists: Vec<[u64; LENGTH]> = boards.iter_mut().map(|b| orders(c, b, names)).collect();
             timed(copies, &mut || {
                 for (b, l) in boards.iter_mut().zip(&mut lists) {
-                    black_box(calls.slot(record, b, l));
+                    black_box(calls.slot(record.into(), b, l));
                 }
             })
         }
         "add" => timed(copies, &mut || {
             for b in &mut boards {
-                black_box(calls.add(record, b, &mut list, 60000, weight));
+                black_box(calls.add(record.into(), b, &mut list, 60000, weight));
             }
         }),
         "remove" => timed(copies, &mut || {
             for (i, b) in boards.iter_mut().enumerate() {
-                black_box(calls.remove(record, b, &mut list, name(i)));
+                black_box(calls.remove(record.into(), b, &mut list, name(i)));
             }
         }),
         "round" => timed(copies, &mut || {
             for _ in 0..copies {
-                black_box(calls.round(record, black_box(board), &mut output));
+                black_box(calls.round(record.into(), black_box(board), &mut output));
             }
         }),
         "report" => timed(copies, &mut || {
             for i in 0..copies {
-                black_box(calls.report(record, black_box(board), name(i)));
+                black_box(calls.report(record.into(), black_box(board), name(i)));
             }
         }),
         "save" => timed(copies, &mut || {
             for _ in 0..copies {
-                black_box(calls.save(record, black_box(board), &mut bytes));
+                black_box(calls.save(record.into(), black_box(board), &mut bytes));
             }
         }),
         _ => timed(copies, &mut || {

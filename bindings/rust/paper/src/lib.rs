@@ -1,6 +1,7 @@
 //! Documents 01 and 02 in plain Rust, written from the papers and from nothing else, to compare the proved library with.
 //! [`letter`] follows the papers' words and cares for nothing else; [`hand`] is what one would write for speed. [`waiting`] has the waiting list over
-//! either.
+//! either, and [`drives`] what changes where two drives share a board.
+pub mod drives;
 pub mod hand;
 pub mod letter;
 pub mod random;
@@ -21,6 +22,19 @@ pub fn at(capacity: u16, position: u16) -> Record {
         capacity,
         position,
         round: 0,
+    }
+}
+
+/// The records that a call is given: that of the drive it is for, and that of the other one where two drives share the board.
+#[derive(Clone, Copy, Debug, PartialEq, Eq)]
+pub struct Records {
+    pub own: Record,
+    pub other: Option<Record>,
+}
+
+impl From<Record> for Records {
+    fn from(own: Record) -> Records {
+        Records { own, other: None }
     }
 }
 

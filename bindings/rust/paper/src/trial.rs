@@ -2,17 +2,17 @@
 //! on many thousand random inputs.
 use crate::random::Random;
 use crate::waiting::{self, AtOnce, LENGTH};
-use crate::{at, hand, letter, Answer, Record};
+use crate::{at, drives, hand, letter, Answer, Record, Records};
 
-/// The calls, with the waiting list. Fetch takes no record, and says a number and a value.
+/// The calls, with the waiting list, for one drive and for two. Fetch takes no record, and says a number and a value.
 pub trait Calls {
     fn open(&self, capacity: u16, board: &mut [u16], list: &mut [u64]) -> Answer;
-    fn add(&self, record: Record, board: &mut [u16], list: &mut [u64], name: u16, weight: u16) -> Answer;
-    fn remove(&self, record: Record, board: &mut [u16], list: &mut [u64], name: u16) -> Answer;
-    fn slot(&self, record: Record, board: &mut [u16], list: &mut [u64]) -> Answer;
-    fn round(&self, record: Record, board: &[u16], output: &mut [u16]) -> Answer;
-    fn report(&self, record: Record, board: &[u16], name: u16) -> Answer;
-    fn save(&self, record: Record, board: &[u16], output: &mut [u8]) -> Answer;
+    fn add(&self, records: Records, board: &mut [u16], list: &mut [u64], name: u16, weight: u16) -> Answer;
+    fn remove(&self, records: Records, board: &mut [u16], list: &mut [u64], name: u16) -> Answer;
+    fn slot(&self, records: Records, board: &mut [u16], list: &mut [u64]) -> Answer;
+    fn round(&self, records: Records, board: &[u16], output: &mut [u16]) -> Answer;
+    fn report(&self, records: Records, board: &[u16], name: u16) -> Answer;
+    fn save(&self, records: Records, board: &[u16], output: &mut [u8]) -> Answer;
     fn read(&self, sheet: &[u8], board: &mut [u16], list: &mut [u64]) -> Answer;
     fn fetch(&self, list: &mut [u64], ticket: u64) -> (u64, u64);
 }
@@ -36,6 +36,15 @@ macro_rules! version {
             fn slot(record: Record, board: &[u16]) -> Answer {
                 $module::slot(record, board)
             }
+            fn round(record: Record, board: &[u16], output: &mut [u16]) -> Answer {
+                $module::round(record, board, output)
+            }
+            fn report(record: Record, board: &[u16], name: u16) -> Answer {
+                $module::report(record, board, name)
+            }
+            fn save(record: Record, board: &[u16], output: &mut [u8]) -> Answer {
+                $module::save(record, board, output)
+            }
             fn read(sheet: &[u8], board: &mut [u16]) -> Answer {
                 $module::read(sheet, board)
             }
@@ -48,23 +57,23 @@ macro_rules! version {
             fn open(&self, capacity: u16, board: &mut [u16], list: &mut [u64]) -> Answer {
                 waiting::open::<Self>(capacity, board, list)
             }
-            fn add(&self, record: Record, board: &mut [u16], list: &mut [u64], name: u16, weight: u16) -> Answer {
-                waiting::add::<Self>(record, board, list, name, weight)
+            fn add(&self, records: Records, board: &mut [u16], list: &mut [u64], name: u16, weight: u16) -> Answer {
+                waiting::add::<Self>(records, board, list, name, weight)
             }
-            fn remove(&self, record: Record, board: &mut [u16], list: &mut [u64], name: u16) -> Answer {
-                waiting::remove::<Self>(record, board, list, name)
+            fn remove(&self, records: Records, board: &mut [u16], list: &mut [u64], name: u16) -> Answer {
+                waiting::remove::<Self>(records, board, list, name)
             }
-            fn slot(&self, record: Record, board: &mut [u16], list: &mut [u64]) -> Answer {
-                waiting::slot::<Self>(record, board, list)
+            fn slot(&self, records: Records, board: &mut [u16], list: &mut [u64]) -> Answer {
+                waiting::slot::<Self>(records, board, list)
             }
-            fn round(&self, record: Record, board: &[u16], output: &mut [u16]) -> Answer {
-                $module::round(record, board, output)
+            fn round(&self, records: Records, board: &[u16], output: &mut [u16]) -> Answer {
+                drives::round::<Self>(records, board, output)
             }
-            fn report(&self, record: Record, board: &[u16], name: u16) -> Answer {
-                $module::report(record, board, name)
+            fn report(&self, records: Records, board: &[u16], name: u16) -> Answer {
+                drives::report::<Self>(records, board, name)
             }
-            fn save(&self, record: Record, board: &[u16], output: &mut [u8]) -> Answer {
-                $module::save(record, board, output)
+            fn save(&self, records: Records, board: &[u16], output: &mut [u8]) -> Answer {
+                drives::save::<Self>(records, board, output)
             }
             fn read(&self, sheet: &[u8], board: &mut [u16], list: &mut [u64]) -> Answer {
                 waiting::read::<Self>(sheet, board, list)
@@ -105,11 +114,14 @@ const MAY: [&[usize]; 9] = [
     &[0, 5, 8, 9, 10, 13, 15],
 ];
 
+/// The calls that are given a record, and so the record of another drive too.
+const GIVEN: std::ops::Range<usize> = 1..7;
+
 impl Tally {
-    /// Every answer that a call may give was met, and no other.
-    pub fn is_whole(&self) {
-        for (call, counts) in self.0.iter().enumerate() {
-            for (number, &count) in counts.iter().enumerate() {
+    /// Every answer that these calls may give was met, and no other.
+    pub fn is_whole(&self, calls: std::ops::Range<usize>) {
+        for call in calls {
+            for (number, &count) in self.0[call].iter().enumerate() {
                 assert_eq!(count > 0, MAY[call].contains(&number), "{} answered {number} {count} times", NAMES[call]);
             }
         }
@@ -120,10 +132,11 @@ impl Tally {
     }
 }
 
-/// One version beside the paper's letter.
+/// One version beside the paper's letter, and what was answered to one drive and to two.
 pub struct Trial<'a, C: Calls> {
     pub calls: &'a C,
     pub tally: Tally,
+    pub tally_of_two: Tally,
 }
 
 impl<'a, C: Calls> Trial<'a, C> {
@@ -131,6 +144,7 @@ impl<'a, C: Calls> Trial<'a, C> {
         Trial {
             calls,
             tally: Tally::default(),
+            tally_of_two: Tally::default(),
         }
     }
 
@@ -162,17 +176,19 @@ impl<'a, C: Calls> Trial<'a, C> {
         got
     }
 
-    fn tallied(&mut self, call: usize, answer: Answer) -> Answer {
-        self.tally.0[call][usize::from(answer.number)] += 1;
+    fn tallied(&mut self, call: usize, two: bool, answer: Answer) -> Answer {
+        let tally = if two { &mut self.tally_of_two } else { &mut self.tally };
+        tally.0[call][usize::from(answer.number)] += 1;
         answer
     }
 
     pub fn open(&mut self, c: u16, board: &mut [u16], list: &mut [u64]) -> Answer {
         let answer = self.same(0, &c, board, list, |calls, b, l| calls.open(c, b, l), |b, l| Letter.open(c, b, l));
-        self.tallied(0, answer)
+        self.tallied(0, false, answer)
     }
 
-    pub fn add(&mut self, r: Record, board: &mut [u16], list: &mut [u64], name: u16, weight: u16) -> Answer {
+    pub fn add(&mut self, records: impl Into<Records>, board: &mut [u16], list: &mut [u64], name: u16, weight: u16) -> Answer {
+        let r = records.into();
         let answer = self.same(
             1,
             &(r, name, weight),
@@ -181,10 +197,11 @@ impl<'a, C: Calls> Trial<'a, C> {
             |calls, b, l| calls.add(r, b, l, name, weight),
             |b, l| Letter.add(r, b, l, name, weight),
         );
-        self.tallied(1, answer)
+        self.tallied(1, r.other.is_some(), answer)
     }
 
-    pub fn remove(&mut self, r: Record, board: &mut [u16], list: &mut [u64], name: u16) -> Answer {
+    pub fn remove(&mut self, records: impl Into<Records>, board: &mut [u16], list: &mut [u64], name: u16) -> Answer {
+        let r = records.into();
         let answer = self.same(
             2,
             &(r, name),
@@ -193,15 +210,17 @@ impl<'a, C: Calls> Trial<'a, C> {
             |calls, b, l| calls.remove(r, b, l, name),
             |b, l| Letter.remove(r, b, l, name),
         );
-        self.tallied(2, answer)
+        self.tallied(2, r.other.is_some(), answer)
     }
 
-    pub fn slot(&mut self, r: Record, board: &mut [u16], list: &mut [u64]) -> Answer {
+    pub fn slot(&mut self, records: impl Into<Records>, board: &mut [u16], list: &mut [u64]) -> Answer {
+        let r = records.into();
         let answer = self.same(3, &r, board, list, |calls, b, l| calls.slot(r, b, l), |b, l| Letter.slot(r, b, l));
-        self.tallied(3, answer)
+        self.tallied(3, r.other.is_some(), answer)
     }
 
-    pub fn round(&mut self, r: Record, board: &[u16], output: &mut [u16]) -> Answer {
+    pub fn round(&mut self, records: impl Into<Records>, board: &[u16], output: &mut [u16]) -> Answer {
+        let r = records.into();
         let answer = self.same(
             4,
             &(r, board),
@@ -210,10 +229,11 @@ impl<'a, C: Calls> Trial<'a, C> {
             |calls, o, _| calls.round(r, board, o),
             |o, _| Letter.round(r, board, o),
         );
-        self.tallied(4, answer)
+        self.tallied(4, r.other.is_some(), answer)
     }
 
-    pub fn report(&mut self, r: Record, board: &[u16], name: u16) -> Answer {
+    pub fn report(&mut self, records: impl Into<Records>, board: &[u16], name: u16) -> Answer {
+        let r = records.into();
         let answer = self.same::<u16, _>(
             5,
             &(r, board, name),
@@ -222,10 +242,11 @@ impl<'a, C: Calls> Trial<'a, C> {
             |calls, _, _| calls.report(r, board, name),
             |_, _| Letter.report(r, board, name),
         );
-        self.tallied(5, answer)
+        self.tallied(5, r.other.is_some(), answer)
     }
 
-    pub fn save(&mut self, r: Record, board: &[u16], output: &mut [u8]) -> Answer {
+    pub fn save(&mut self, records: impl Into<Records>, board: &[u16], output: &mut [u8]) -> Answer {
+        let r = records.into();
         let answer = self.same(
             6,
             &(r, board),
@@ -234,7 +255,7 @@ impl<'a, C: Calls> Trial<'a, C> {
             |calls, o, _| calls.save(r, board, o),
             |o, _| Letter.save(r, board, o),
         );
-        self.tallied(6, answer)
+        self.tallied(6, r.other.is_some(), answer)
     }
 
     pub fn read(&mut self, sheet: &[u8], board: &mut [u16], list: &mut [u64]) -> Answer {
@@ -246,7 +267,7 @@ impl<'a, C: Calls> Trial<'a, C> {
             |calls, b, l| calls.read(sheet, b, l),
             |b, l| Letter.read(sheet, b, l),
         );
-        self.tallied(7, answer)
+        self.tallied(7, false, answer)
     }
 
     /// An answer of a list that calls left is counted; one of a list that no call left may be any number.
@@ -330,22 +351,26 @@ impl<'a, C: Calls> Trial<'a, C> {
         }
     }
 
-    /// One board from its opening through many changes, made at once and waiting, with wrong calls between them.
-    pub fn churn(&mut self, seed: u64) {
+    /// One board from its opening through many changes, made at once and waiting, with wrong calls between them; for one drive or for two.
+    pub fn churn(&mut self, seed: u64, two: bool) {
         let mut random = Random::new(seed);
         let c = some_capacity(&mut random);
         let mut board: Vec<u16> = (0..usize::from(c) + random.below(4)).map(|_| random.draw() as u16).collect();
         let mut list = some_list(&mut random, &[]);
-        let mut record = self.open(c, &mut board, &mut list).record;
+        let mut drives = [self.open(c, &mut board, &mut list).record; 2];
         if random.one_in(2) {
-            record.round = some_round(&mut random);
+            drives[0].round = some_round(&mut random);
         }
         let mut names: Vec<u16> = Vec::new();
         let largest = random.pick(&[1, 1, 2, 3, 5, 16, 200, 2000]).min(usize::from(c));
         for _ in 0..if c < 300 { 160 } else { 40 } {
-            if record.position != 1 && random.one_in(3) {
-                record.position = 1;
+            for drive in &mut drives {
+                if drive.position != 1 && random.one_in(3) {
+                    drive.position = 1;
+                }
             }
+            let side = if two { random.below(2) } else { 0 };
+            let records = given(&drives, side, two);
             match random.below(14) {
                 0..=3 => {
                     let name = some_name(&mut random, &names);
@@ -354,11 +379,11 @@ impl<'a, C: Calls> Trial<'a, C> {
                     } else {
                         1 + random.below(largest) as u16
                     };
-                    let answer = self.add(record, &mut board, &mut list, name, weight);
+                    let answer = self.add(records, &mut board, &mut list, name, weight);
                     match (answer.number, answer.values[0]) {
                         (0 | 13, _) => names.push(name),
                         (10, idle) if idle > 0 => {
-                            let asked = self.add(record, &mut board.clone(), &mut list.clone(), name, idle as u16);
+                            let asked = self.add(records, &mut board.clone(), &mut list.clone(), name, idle as u16);
                             assert_eq!(asked.number, 0, "ROOM said {idle}");
                         }
                         _ => {}
@@ -370,42 +395,45 @@ impl<'a, C: Calls> Trial<'a, C> {
                     } else {
                         random.pick(&names)
                     };
-                    if matches!(self.remove(record, &mut board, &mut list, name).number, 0 | 13) {
+                    if matches!(self.remove(records, &mut board, &mut list, name).number, 0 | 13) {
                         names.retain(|&x| x != name);
                     }
                 }
                 7 => {
                     for _ in 0..random.below(9) {
-                        record = self.slot(record, &mut board, &mut list).record;
+                        let side = if two { random.below(2) } else { 0 };
+                        drives[side] = self.slot(given(&drives, side, two), &mut board, &mut list).record;
                     }
                 }
                 8 => {
                     let mut output: Vec<u16> = vec![9; (usize::from(c) + 2).saturating_sub(random.below(4))];
-                    self.round(record, &board, &mut output);
+                    self.round(records, &board, &mut output);
                     let name = some_name(&mut random, &names);
-                    self.report(record, &board, name);
+                    self.report(records, &board, name);
                 }
-                9 => self.sheets(&mut random, record, &board, &list),
-                10 => self.damaged(&mut random, record, &board, &list, &names),
+                9 => self.sheets(&mut random, records, &board, &list),
+                10 => self.damaged(&mut random, records, &board, &list, &names),
                 11 => {
                     for _ in 0..random.below(5) {
                         let ticket = some_ticket(&mut random, &list);
                         self.fetch(&mut list, ticket, false);
                     }
                 }
-                12 => self.odd(&mut random, record, &board, &names),
-                _ => self.wrong(&mut random, record, &board, &list, &names),
+                12 => self.odd(&mut random, records, &board, &names),
+                _ => self.wrong(&mut random, records, &board, &list, &names),
             }
             if random.one_in(60) {
-                self.crowd(&mut random, record, &board, &list, &names);
+                self.crowd(&mut random, records, &board, &list, &names);
             }
         }
     }
 
     /// More orders than there are places, in the middle of a round, then the round's start and every answer, on copies.
-    fn crowd(&mut self, random: &mut Random, record: Record, board: &[u16], list: &[u64], names: &[u16]) {
+    fn crowd(&mut self, random: &mut Random, records: Records, board: &[u16], list: &[u64], names: &[u16]) {
         let (mut board, mut list) = (board.to_vec(), list.to_vec());
-        let away = Record { position: 2, ..record };
+        let c = usize::from(records.own.capacity);
+        let start = placed(records, 1, 1);
+        let away = some_away(random, records);
         for _ in 0..waiting::PLACES + 2 {
             let name = some_name(random, names);
             if random.one_in(2) {
@@ -415,10 +443,10 @@ impl<'a, C: Calls> Trial<'a, C> {
             }
         }
         if random.one_in(3) {
-            let at = random.below(usize::from(record.capacity));
-            board[at] = board[random.below(usize::from(record.capacity))];
+            let at = random.below(c);
+            board[at] = board[random.below(c)];
         }
-        let start = Record { position: 1, ..record };
+        self.slot(away, &mut board.clone(), &mut list.clone());
         self.slot(start, &mut board, &mut list);
         self.add(start, &mut board.clone(), &mut list.clone(), some_name(random, names), 1);
         self.add(away, &mut board.clone(), &mut list.clone(), some_name(random, names), 1);
@@ -429,13 +457,14 @@ impl<'a, C: Calls> Trial<'a, C> {
     }
 
     /// Every call that is lent the list with one that no call left, on copies.
-    fn odd(&mut self, random: &mut Random, record: Record, board: &[u16], names: &[u16]) {
+    fn odd(&mut self, random: &mut Random, records: Records, board: &[u16], names: &[u16]) {
         let (mut board, mut list) = (board.to_vec(), some_list(random, names));
         for _ in 0..4 {
             let name = some_name(random, names);
-            let at = Record {
-                position: random.pick(&[1, 1, 2]),
-                ..record
+            let at = if random.one_in(3) {
+                some_away(random, records)
+            } else {
+                placed(records, 1, 1)
             };
             self.add(at, &mut board, &mut list, name, random.below(4) as u16);
             self.remove(at, &mut board, &mut list, name);
@@ -446,34 +475,10 @@ impl<'a, C: Calls> Trial<'a, C> {
     }
 
     /// Every call with a record, a capacity or a length that is wrong, on copies.
-    fn wrong(&mut self, random: &mut Random, record: Record, board: &[u16], list: &[u64], names: &[u16]) {
-        let wrong = [
-            0,
-            1,
-            record.capacity.wrapping_sub(1),
-            record.capacity,
-            record.capacity + 1,
-            4095,
-            4096,
-            65535,
-        ];
-        let places = [
-            0,
-            1,
-            2,
-            record.position,
-            record.capacity,
-            record.capacity.next_power_of_two() - 1,
-            record.capacity.next_power_of_two(),
-            2 * record.capacity - 1,
-            2 * record.capacity,
-            8191,
-            65535,
-        ];
-        let r = Record {
-            capacity: if random.one_in(2) { record.capacity } else { random.pick(&wrong) },
-            position: if random.one_in(3) { 1 } else { random.pick(&places) },
-            round: some_round(random),
+    fn wrong(&mut self, random: &mut Random, records: Records, board: &[u16], list: &[u64], names: &[u16]) {
+        let r = Records {
+            own: some_record(random, records.own),
+            other: records.other.map(|other| some_record(random, other)),
         };
         let lent = if random.one_in(2) {
             board.len()
@@ -487,7 +492,7 @@ impl<'a, C: Calls> Trial<'a, C> {
         if random.one_in(3) {
             list.truncate(random.pick(&[0, 1, 3, LENGTH - 1]));
         }
-        self.open(r.capacity, &mut board.to_vec(), &mut list.clone());
+        self.open(r.own.capacity, &mut board.to_vec(), &mut list.clone());
         self.add(r, &mut board.to_vec(), &mut list.clone(), name, weight);
         self.remove(r, &mut board.to_vec(), &mut list.clone(), name);
         self.slot(r, &mut board.to_vec(), &mut list.clone());
@@ -498,30 +503,31 @@ impl<'a, C: Calls> Trial<'a, C> {
     }
 
     /// Every call on a board with a few leaves changed, on copies.
-    fn damaged(&mut self, random: &mut Random, record: Record, board: &[u16], list: &[u64], names: &[u16]) {
+    fn damaged(&mut self, random: &mut Random, records: Records, board: &[u16], list: &[u64], names: &[u16]) {
         let mut board = board.to_vec();
         for _ in 0..1 + random.below(3) {
             let at = random.below(board.len());
             board[at] = if random.one_in(3) { 0 } else { some_name(random, names) };
         }
         let name = some_name(random, names);
-        self.add(record, &mut board.clone(), &mut list.to_vec(), name, 1);
-        self.remove(record, &mut board.clone(), &mut list.to_vec(), name);
-        self.slot(record, &mut board.clone(), &mut list.to_vec());
-        self.report(record, &board, name);
+        self.add(records, &mut board.clone(), &mut list.to_vec(), name, 1);
+        self.remove(records, &mut board.clone(), &mut list.to_vec(), name);
+        self.slot(records, &mut board.clone(), &mut list.to_vec());
+        self.report(records, &board, name);
         let mut sheet = vec![3; 17 * 512];
-        self.save(record, &board, &mut sheet);
-        let bytes = letter::sheet(&board[..record.capacity.into()]);
+        self.save(records, &board, &mut sheet);
+        let bytes = letter::sheet(&board[..records.own.capacity.into()]);
         self.read(&bytes, &mut board, &mut list.to_vec());
     }
 
     /// Saves, reads back, and reads what is left after one damage of each kind.
-    fn sheets(&mut self, random: &mut Random, record: Record, board: &[u16], list: &[u64]) {
-        let c = usize::from(record.capacity);
+    fn sheets(&mut self, random: &mut Random, records: Records, board: &[u16], list: &[u64]) {
+        let c = usize::from(records.own.capacity);
         let bytes = c.div_ceil(253) * 512;
         let mut output = vec![1; bytes + random.below(3) * 511];
         output.truncate(if random.one_in(4) { bytes - 1 } else { output.len() });
-        self.save(Record { position: 1, ..record }, board, &mut output);
+        self.save(placed(records, 1, 1), board, &mut output);
+        self.save(records, board, &mut output);
         let sheet = letter::sheet(&board[..c]);
         for kind in 0..14 {
             let mut damaged = sheet.clone();
@@ -543,7 +549,7 @@ impl<'a, C: Calls> Trial<'a, C> {
                 11 => damaged = vec![0; 500 + random.below(30)],
                 12 => damaged
                     .chunks_exact_mut(512)
-                    .for_each(|b| b[2..4].copy_from_slice(&(record.capacity ^ 1).to_le_bytes())),
+                    .for_each(|b| b[2..4].copy_from_slice(&(records.own.capacity ^ 1).to_le_bytes())),
                 _ => damaged[510 + 512 * random.below(bytes / 512)] ^= flip,
             }
             if random.one_in(2) && kind != 13 {
@@ -553,6 +559,63 @@ impl<'a, C: Calls> Trial<'a, C> {
             let short = if random.one_in(4) { LENGTH - 1 } else { list.len() };
             self.read(&damaged, &mut lent, &mut list[..short].to_vec());
         }
+    }
+}
+
+/// The records for a call of one of the drives: with that of the other one where there are two.
+fn given(drives: &[Record; 2], side: usize, two: bool) -> Records {
+    Records {
+        own: drives[side],
+        other: two.then_some(drives[1 - side]),
+    }
+}
+
+/// The records at other positions.
+fn placed(records: Records, own: u16, other: u16) -> Records {
+    let put = |record, position| Record { position, ..record };
+    Records {
+        own: put(records.own, own),
+        other: records.other.map(|record| put(record, other)),
+    }
+}
+
+/// The records with one drive, or each, away from the start of a round (at C = 1 out of range).
+fn some_away(random: &mut Random, records: Records) -> Records {
+    match records.other {
+        None => placed(records, 2, 2),
+        Some(_) => random.pick(&[placed(records, 1, 2), placed(records, 2, 1), placed(records, 2, 2)]),
+    }
+}
+
+/// A record like one that calls left, or wrong in its capacity, its position or both.
+fn some_record(random: &mut Random, record: Record) -> Record {
+    let wrong = [
+        0,
+        1,
+        record.capacity.wrapping_sub(1),
+        record.capacity,
+        record.capacity + 1,
+        4095,
+        4096,
+        65535,
+    ];
+    let places = [
+        0,
+        1,
+        2,
+        record.position,
+        record.capacity,
+        record.capacity.next_power_of_two() - 1,
+        record.capacity.next_power_of_two(),
+        2 * record.capacity - 1,
+        2 * record.capacity,
+        8191,
+        65535,
+    ];
+    Record {
+        capacity: if random.one_in(2) { record.capacity } else { random.pick(&wrong) },
+        position: if random.one_in(3) { 1 } else { random.pick(&places) },
+        round: some_round(random),
     }
 }
 
@@ -645,8 +708,10 @@ pub fn compare(calls: &impl Calls, seeds: u64) -> usize {
     trial.small_boards();
     trial.two_runs();
     for seed in 0..seeds {
-        trial.churn(seed);
+        trial.churn(seed, false);
+        trial.churn(seed, true);
     }
-    trial.tally.is_whole();
-    trial.tally.calls()
+    trial.tally.is_whole(0..NAMES.len());
+    trial.tally_of_two.is_whole(GIVEN);
+    trial.tally.calls() + trial.tally_of_two.calls()
 }

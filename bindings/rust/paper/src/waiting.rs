@@ -3,7 +3,8 @@
 //!
 //! The list is lent as numbers: the last ticket given, how many answers are to be fetched, how many orders wait, and 64 places of four, answers
 //! before orders. What means nothing stays as it was.
-use crate::{at, Answer, Record};
+use crate::drives::bounds;
+use crate::{at, Answer, Record, Records};
 
 /// A version's calls that are made at once.
 pub trait AtOnce {
@@ -11,6 +12,9 @@ pub trait AtOnce {
     fn add(record: Record, board: &mut [u16], name: u16, weight: u16) -> Answer;
     fn remove(record: Record, board: &mut [u16], name: u16) -> Answer;
     fn slot(record: Record, board: &[u16]) -> Answer;
+    fn round(record: Record, board: &[u16], output: &mut [u16]) -> Answer;
+    fn report(record: Record, board: &[u16], name: u16) -> Answer;
+    fn save(record: Record, board: &[u16], output: &mut [u8]) -> Answer;
     fn read(sheet: &[u8], board: &mut [u16]) -> Answer;
     fn good(leaves: &[u16]) -> bool;
 }
@@ -94,22 +98,12 @@ fn run<P: AtOnce>(record: Record, board: &mut [u16], list: &mut [u64]) {
     list[1..3].copy_from_slice(&[(answers + orders) as u64, 0]);
 }
 
-/// The checks 1 to 3; the lent list is looked at after the board.
-fn bounds<P: AtOnce>(record: Record, board: &[u16], list: &[u64]) -> Option<u16> {
-    let plain = P::slot(record, board).number;
-    match plain {
-        1 | 2 => Some(plain),
-        _ if list.len() < LENGTH => Some(SHORT),
-        0 => None,
-        number => Some(number),
-    }
-}
-
-fn change<P: AtOnce>(record: Record, board: &mut [u16], list: &mut [u64], order: Order) -> Answer {
-    if let Some(number) = bounds::<P>(record, board, list) {
+fn change<P: AtOnce>(records: Records, board: &mut [u16], list: &mut [u64], order: Order) -> Answer {
+    let record = records.own;
+    if let Some(number) = bounds::<P>(records, board, list.len() < LENGTH) {
         return Answer::refused(record, number);
     }
-    if record.position == 1 && counts(list).1 == 0 {
+    if records.start() && counts(list).1 == 0 {
         return carry_out::<P>(record, board, order);
     }
     // "After checks 1 to 3 and 5 to 7": a remove has no weight to look at.
@@ -121,20 +115,22 @@ fn change<P: AtOnce>(record: Record, board: &mut [u16], list: &mut [u64], order:
     }
 }
 
-pub fn add<P: AtOnce>(record: Record, board: &mut [u16], list: &mut [u64], name: u16, weight: u16) -> Answer {
-    change::<P>(record, board, list, add_order(name, weight))
+pub fn add<P: AtOnce>(records: impl Into<Records>, board: &mut [u16], list: &mut [u64], name: u16, weight: u16) -> Answer {
+    change::<P>(records.into(), board, list, add_order(name, weight))
 }
 
-pub fn remove<P: AtOnce>(record: Record, board: &mut [u16], list: &mut [u64], name: u16) -> Answer {
-    change::<P>(record, board, list, remove_order(name))
+pub fn remove<P: AtOnce>(records: impl Into<Records>, board: &mut [u16], list: &mut [u64], name: u16) -> Answer {
+    change::<P>(records.into(), board, list, remove_order(name))
 }
 
-/// "The slot call at p = 1 carries out the list .. before it picks the leaf."
-pub fn slot<P: AtOnce>(record: Record, board: &mut [u16], list: &mut [u64]) -> Answer {
-    if let Some(number) = bounds::<P>(record, board, list) {
+/// "The slot call at p = 1 carries out the list .. before it picks the leaf"; with two drives "the slot call that finds both there".
+pub fn slot<P: AtOnce>(records: impl Into<Records>, board: &mut [u16], list: &mut [u64]) -> Answer {
+    let records = records.into();
+    let record = records.own;
+    if let Some(number) = bounds::<P>(records, board, list.len() < LENGTH) {
         return Answer::refused(record, number);
     }
-    if record.position == 1 {
+    if records.start() {
         run::<P>(record, board, list);
     }
     P::slot(record, board)

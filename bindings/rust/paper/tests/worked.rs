@@ -184,3 +184,75 @@ fn waiting_list() {
     assert_eq!(fetch(&mut list[..LENGTH - 1], u64::MAX), (15, 0));
     assert_eq!(list[LENGTH], 77);
 }
+
+/// Document 02, No. 10: two drives on one board, what a near miss would tell.
+#[test]
+fn two_drives() {
+    use paper::drives::{report, round, save};
+    use paper::trial::Letter as P;
+    use paper::waiting::{add, fetch, open, remove, slot, LENGTH};
+    use paper::Records;
+    let both = |own, other| Records { own, other: Some(other) };
+    let (mut board, mut list) = ([0; 8], [0; LENGTH]);
+
+    // 1 and 3 of either record, 2 at the larger C and before 3, 3 for unequal C.
+    for (own, other, number) in [
+        (at(0, 0), at(9, 1), 1),
+        (at(9, 1), at(0, 0), 1),
+        (at(8, 0), at(9, 1), 2),
+        (at(9, 1), at(8, 0), 2),
+        (at(8, 1), at(8, 16), 3),
+        (at(8, 16), at(8, 1), 3),
+        (at(8, 1), at(7, 1), 3),
+        (at(7, 1), at(8, 1), 3),
+    ] {
+        let records = both(own, other);
+        let refused = Answer::refused(own, number);
+        assert_eq!(add::<P>(records, &mut board, &mut list, 1, 1), refused);
+        assert_eq!(remove::<P>(records, &mut board, &mut list, 0), refused);
+        assert_eq!(slot::<P>(records, &mut board, &mut list), refused);
+        assert_eq!(round::<P>(records, &board, &mut []), refused);
+        assert_eq!(report::<P>(records, &board, 0), refused);
+        assert_eq!(save::<P>(records, &board, &mut []), refused);
+    }
+
+    // C = 2: an order waits while either drive is away from p = 1, and the slot of either that finds both there carries it out.
+    let start = open::<P>(2, &mut board, &mut list).record;
+    assert_eq!(add::<P>(both(start, start), &mut board, &mut list, 1, 1).values[0], 1);
+    let mut a = slot::<P>(both(start, start), &mut board, &mut list).record;
+    let mut b = start;
+    assert_eq!(add::<P>(both(b, a), &mut board, &mut list, 2, 1).number, 13);
+    assert_eq!(save::<P>(both(b, a), &board, &mut [0; 512]).number, 4);
+    b = slot::<P>(both(b, a), &mut board, &mut list).record;
+    a = slot::<P>(both(a, b), &mut board, &mut list).record;
+    assert_eq!((a.position, a.round, b.position, b.round), (1, 1, 2, 0));
+    assert_eq!(slot::<P>(both(a, b), &mut board.clone(), &mut list.clone()).values[0], 1);
+    assert_eq!(board[..2], [1, 0]);
+    b = slot::<P>(both(b, a), &mut board, &mut list).record;
+    let said = slot::<P>(both(b, a), &mut board, &mut list);
+    assert_eq!(
+        (said.values, board[..2].to_vec(), fetch(&mut list, 1)),
+        ([1, 0, 0, 1], vec![1, 2], (0, 0))
+    );
+
+    // C = 3, slots A, A, B, A, B, A, B ..: never both at p = 1, and the order waits on.
+    let start = open::<P>(3, &mut board, &mut list).record;
+    let (mut a, mut b) = (start, start);
+    a = slot::<P>(both(a, b), &mut board, &mut list).record;
+    assert_eq!(add::<P>(both(a, b), &mut board, &mut list, 5, 1).values[0], 2);
+    a = slot::<P>(both(a, b), &mut board, &mut list).record;
+    for _ in 0..30 {
+        b = slot::<P>(both(b, a), &mut board, &mut list).record;
+        a = slot::<P>(both(a, b), &mut board, &mut list).record;
+        assert_eq!(fetch(&mut list, 2), (13, 2));
+    }
+    // Holding A back at its p = 1 until B is there too ends the wait.
+    while a.position != 1 {
+        a = slot::<P>(both(a, b), &mut board, &mut list).record;
+    }
+    while b.position != 1 {
+        b = slot::<P>(both(b, a), &mut board, &mut list).record;
+    }
+    slot::<P>(both(a, b), &mut board, &mut list);
+    assert_eq!(fetch(&mut list, 2), (0, 2));
+}

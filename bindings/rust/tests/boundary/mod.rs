@@ -2,7 +2,7 @@
 use mandrozsi::raw::{self, Reply, Said};
 use mandrozsi::Drive;
 use paper::trial::Calls;
-use paper::{Answer, Record};
+use paper::{Answer, Record, Records};
 
 #[cfg(served)]
 mod served;
@@ -45,25 +45,65 @@ impl Calls for Boundary {
     fn open(&self, c: u16, board: &mut [u16], list: &mut [u64]) -> Answer {
         answer(unsafe { raw::mandrozsi_open(c, board.as_mut_ptr(), board.len(), list.as_mut_ptr(), list.len()) })
     }
-    fn add(&self, r: Record, board: &mut [u16], list: &mut [u64], name: u16, weight: u16) -> Answer {
-        let (entries, numbers) = (board.len(), list.len());
-        answer(unsafe { raw::mandrozsi_add(drive(r), board.as_mut_ptr(), entries, list.as_mut_ptr(), numbers, name, weight) })
+    fn add(&self, r: Records, board: &mut [u16], list: &mut [u64], name: u16, weight: u16) -> Answer {
+        let (board, entries, list, numbers) = (board.as_mut_ptr(), board.len(), list.as_mut_ptr(), list.len());
+        let own = drive(r.own);
+        answer(unsafe {
+            match r.other {
+                None => raw::mandrozsi_add(own, board, entries, list, numbers, name, weight),
+                Some(other) => raw::mandrozsi_pair_add(own, drive(other), board, entries, list, numbers, name, weight),
+            }
+        })
     }
-    fn remove(&self, r: Record, board: &mut [u16], list: &mut [u64], name: u16) -> Answer {
-        let (entries, numbers) = (board.len(), list.len());
-        answer(unsafe { raw::mandrozsi_remove(drive(r), board.as_mut_ptr(), entries, list.as_mut_ptr(), numbers, name) })
+    fn remove(&self, r: Records, board: &mut [u16], list: &mut [u64], name: u16) -> Answer {
+        let (board, entries, list, numbers) = (board.as_mut_ptr(), board.len(), list.as_mut_ptr(), list.len());
+        let own = drive(r.own);
+        answer(unsafe {
+            match r.other {
+                None => raw::mandrozsi_remove(own, board, entries, list, numbers, name),
+                Some(other) => raw::mandrozsi_pair_remove(own, drive(other), board, entries, list, numbers, name),
+            }
+        })
     }
-    fn slot(&self, r: Record, board: &mut [u16], list: &mut [u64]) -> Answer {
-        answer(unsafe { raw::mandrozsi_slot(drive(r), board.as_mut_ptr(), board.len(), list.as_mut_ptr(), list.len()) })
+    fn slot(&self, r: Records, board: &mut [u16], list: &mut [u64]) -> Answer {
+        let (board, entries, list, numbers) = (board.as_mut_ptr(), board.len(), list.as_mut_ptr(), list.len());
+        let own = drive(r.own);
+        answer(unsafe {
+            match r.other {
+                None => raw::mandrozsi_slot(own, board, entries, list, numbers),
+                Some(other) => raw::mandrozsi_pair_slot(own, drive(other), board, entries, list, numbers),
+            }
+        })
     }
-    fn round(&self, r: Record, board: &[u16], output: &mut [u16]) -> Answer {
-        answer(unsafe { raw::mandrozsi_round(drive(r), board.as_ptr(), board.len(), output.as_mut_ptr(), output.len()) })
+    fn round(&self, r: Records, board: &[u16], output: &mut [u16]) -> Answer {
+        let (board, entries, output, length) = (board.as_ptr(), board.len(), output.as_mut_ptr(), output.len());
+        let own = drive(r.own);
+        answer(unsafe {
+            match r.other {
+                None => raw::mandrozsi_round(own, board, entries, output, length),
+                Some(other) => raw::mandrozsi_pair_round(own, drive(other), board, entries, output, length),
+            }
+        })
     }
-    fn report(&self, r: Record, board: &[u16], name: u16) -> Answer {
-        answer(unsafe { raw::mandrozsi_report(drive(r), board.as_ptr(), board.len(), name) })
+    fn report(&self, r: Records, board: &[u16], name: u16) -> Answer {
+        let (board, entries) = (board.as_ptr(), board.len());
+        let own = drive(r.own);
+        answer(unsafe {
+            match r.other {
+                None => raw::mandrozsi_report(own, board, entries, name),
+                Some(other) => raw::mandrozsi_pair_report(own, drive(other), board, entries, name),
+            }
+        })
     }
-    fn save(&self, r: Record, board: &[u16], output: &mut [u8]) -> Answer {
-        answer(unsafe { raw::mandrozsi_save(drive(r), board.as_ptr(), board.len(), output.as_mut_ptr(), output.len()) })
+    fn save(&self, r: Records, board: &[u16], output: &mut [u8]) -> Answer {
+        let (board, entries, output, length) = (board.as_ptr(), board.len(), output.as_mut_ptr(), output.len());
+        let own = drive(r.own);
+        answer(unsafe {
+            match r.other {
+                None => raw::mandrozsi_save(own, board, entries, output, length),
+                Some(other) => raw::mandrozsi_pair_save(own, drive(other), board, entries, output, length),
+            }
+        })
     }
     fn read(&self, sheet: &[u8], board: &mut [u16], list: &mut [u64]) -> Answer {
         let (entries, numbers) = (board.len(), list.len());

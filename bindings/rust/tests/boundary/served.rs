@@ -34,12 +34,13 @@ impl Server {
 
     /// One call, written whole before its answer is read. The head is what is called, the name and the weight; serve.c's `struct call` has the
     /// order.
-    fn ask(&mut self, head: [u16; 3], drive: Drive, board: Lent, list: Lent, other: Lent) -> Reply {
+    fn ask(&mut self, head: [u16; 3], [drive, partner]: [Drive; 2], board: Lent, list: Lent, other: Lent) -> Reply {
         let lengths = [&board, &list, &other].map(|slice| u16::try_from(slice.bytes().len()).expect("a slice of the comparison is short"));
-        let place = [drive.capacity, drive.position];
-        let words = head.iter().chain(&lengths).chain(&place);
+        let places = [drive.capacity, drive.position, partner.capacity, partner.position];
+        // Before the 64-bit numbers there is room for two words more.
+        let words = head.iter().chain(&lengths).chain(&places).chain(&[0, 0]);
         let mut call: Vec<u8> = words.flat_map(|n| n.to_le_bytes()).collect();
-        call.extend_from_slice(&drive.round.to_le_bytes());
+        call.extend([drive.round, partner.round].iter().flat_map(|n| n.to_le_bytes()));
         for slice in [&board, &list, &other] {
             call.extend_from_slice(slice.bytes());
         }
@@ -107,8 +108,13 @@ impl Lent<'_> {
     }
 }
 
-fn ask(call: u16, drive: Drive, name: u16, weight: u16, [board, list, other]: [Lent; 3]) -> Reply {
-    SERVER.with_borrow_mut(|server| server.ask([call, name, weight], drive, board, list, other))
+fn ask(call: u16, drives: [Drive; 2], name: u16, weight: u16, [board, list, other]: [Lent; 3]) -> Reply {
+    SERVER.with_borrow_mut(|server| server.ask([call, name, weight], drives, board, list, other))
+}
+
+/// Of one drive: there is no other record.
+fn one(drive: Drive) -> [Drive; 2] {
+    [drive, Drive::default()]
 }
 
 // In the order of serve.c. SAFETY: as raw.rs asks, pointer and length are of one slice.
@@ -118,42 +124,38 @@ unsafe extern "C" fn mandrozsi_open(capacity: u16, board: *mut u16, entries: usi
         capacity,
         ..Drive::default()
     };
-    ask(0, drive, 0, 0, [Lent::changed(board, entries), Lent::changed(list, numbers), NONE])
+    ask(0, one(drive), 0, 0, [Lent::changed(board, entries), Lent::changed(list, numbers), NONE])
 }
 #[no_mangle]
 unsafe extern "C" fn mandrozsi_add(drive: Drive, board: *mut u16, entries: usize, list: *mut u64, numbers: usize, name: u16, weight: u16) -> Reply {
-    ask(
-        1,
-        drive,
-        name,
-        weight,
-        [Lent::changed(board, entries), Lent::changed(list, numbers), NONE],
-    )
+    let lent = [Lent::changed(board, entries), Lent::changed(list, numbers), NONE];
+    ask(1, one(drive), name, weight, lent)
 }
 #[no_mangle]
 unsafe extern "C" fn mandrozsi_remove(drive: Drive, board: *mut u16, entries: usize, list: *mut u64, numbers: usize, name: u16) -> Reply {
-    ask(2, drive, name, 0, [Lent::changed(board, entries), Lent::changed(list, numbers), NONE])
+    let lent = [Lent::changed(board, entries), Lent::changed(list, numbers), NONE];
+    ask(2, one(drive), name, 0, lent)
 }
 #[no_mangle]
 unsafe extern "C" fn mandrozsi_slot(drive: Drive, board: *mut u16, entries: usize, list: *mut u64, numbers: usize) -> Reply {
-    ask(3, drive, 0, 0, [Lent::changed(board, entries), Lent::changed(list, numbers), NONE])
+    ask(3, one(drive), 0, 0, [Lent::changed(board, entries), Lent::changed(list, numbers), NONE])
 }
 #[no_mangle]
 unsafe extern "C" fn mandrozsi_round(drive: Drive, board: *const u16, entries: usize, output: *mut u16, length: usize) -> Reply {
-    ask(4, drive, 0, 0, [Lent::shared(board, entries), NONE, Lent::changed(output, length)])
+    ask(4, one(drive), 0, 0, [Lent::shared(board, entries), NONE, Lent::changed(output, length)])
 }
 #[no_mangle]
 unsafe extern "C" fn mandrozsi_report(drive: Drive, board: *const u16, entries: usize, name: u16) -> Reply {
-    ask(5, drive, name, 0, [Lent::shared(board, entries), NONE, NONE])
+    ask(5, one(drive), name, 0, [Lent::shared(board, entries), NONE, NONE])
 }
 #[no_mangle]
 unsafe extern "C" fn mandrozsi_save(drive: Drive, board: *const u16, entries: usize, output: *mut u8, length: usize) -> Reply {
-    ask(6, drive, 0, 0, [Lent::shared(board, entries), NONE, Lent::changed(output, length)])
+    ask(6, one(drive), 0, 0, [Lent::shared(board, entries), NONE, Lent::changed(output, length)])
 }
 #[no_mangle]
 unsafe extern "C" fn mandrozsi_read(sheet: *const u8, length: usize, board: *mut u16, entries: usize, list: *mut u64, numbers: usize) -> Reply {
     let lent = [Lent::changed(board, entries), Lent::changed(list, numbers), Lent::shared(sheet, length)];
-    ask(7, Drive::default(), 0, 0, lent)
+    ask(7, one(Drive::default()), 0, 0, lent)
 }
 #[no_mangle]
 unsafe extern "C" fn mandrozsi_fetch(list: *mut u64, numbers: usize, ticket: u64) -> Said {
@@ -161,5 +163,51 @@ unsafe extern "C" fn mandrozsi_fetch(list: *mut u64, numbers: usize, ticket: u64
         round: ticket,
         ..Drive::default()
     };
-    ask(8, asked, 0, 0, [NONE, Lent::changed(list, numbers), NONE]).said
+    ask(8, one(asked), 0, 0, [NONE, Lent::changed(list, numbers), NONE]).said
+}
+#[no_mangle]
+unsafe extern "C" fn mandrozsi_pair_add(
+    own: Drive,
+    other: Drive,
+    board: *mut u16,
+    entries: usize,
+    list: *mut u64,
+    numbers: usize,
+    name: u16,
+    weight: u16,
+) -> Reply {
+    let lent = [Lent::changed(board, entries), Lent::changed(list, numbers), NONE];
+    ask(9, [own, other], name, weight, lent)
+}
+#[no_mangle]
+unsafe extern "C" fn mandrozsi_pair_remove(
+    own: Drive,
+    other: Drive,
+    board: *mut u16,
+    entries: usize,
+    list: *mut u64,
+    numbers: usize,
+    name: u16,
+) -> Reply {
+    let lent = [Lent::changed(board, entries), Lent::changed(list, numbers), NONE];
+    ask(10, [own, other], name, 0, lent)
+}
+#[no_mangle]
+unsafe extern "C" fn mandrozsi_pair_slot(own: Drive, other: Drive, board: *mut u16, entries: usize, list: *mut u64, numbers: usize) -> Reply {
+    let lent = [Lent::changed(board, entries), Lent::changed(list, numbers), NONE];
+    ask(11, [own, other], 0, 0, lent)
+}
+#[no_mangle]
+unsafe extern "C" fn mandrozsi_pair_round(own: Drive, other: Drive, board: *const u16, entries: usize, output: *mut u16, length: usize) -> Reply {
+    let lent = [Lent::shared(board, entries), NONE, Lent::changed(output, length)];
+    ask(12, [own, other], 0, 0, lent)
+}
+#[no_mangle]
+unsafe extern "C" fn mandrozsi_pair_report(own: Drive, other: Drive, board: *const u16, entries: usize, name: u16) -> Reply {
+    ask(13, [own, other], name, 0, [Lent::shared(board, entries), NONE, NONE])
+}
+#[no_mangle]
+unsafe extern "C" fn mandrozsi_pair_save(own: Drive, other: Drive, board: *const u16, entries: usize, output: *mut u8, length: usize) -> Reply {
+    let lent = [Lent::shared(board, entries), NONE, Lent::changed(output, length)];
+    ask(14, [own, other], 0, 0, lent)
 }

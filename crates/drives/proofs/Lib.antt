@@ -1,0 +1,7 @@
+-- What upper crates cite is Laws. The rest is inner; Examples has checks worked by hand.
+mod Pairs
+mod Single
+mod Alike
+mod Answering
+mod Examples
+pub mod Laws

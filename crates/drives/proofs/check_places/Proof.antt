@@ -1,0 +1,57 @@
+-- `drives::check_places` meets its contract.
+-- Assumes nothing.
+use borrow.Author.Needs.{needs}
+use Rattle.drives.proofs.Pairs.{places-own, places-other, places-unequal}
+use Rattle.drives.proofs.check_places.Statement.{statement}
+use Rattle.drives.proofs.check_places.Tie as tie
+
+cast-c : tie.Need-cast-c
+cast-c c = search needs
+
+cast-check-position : tie.Need-cast-check-position
+cast-check-position c = search needs
+
+check-position-requires : tie.Need-check-position-requires
+check-position-requires c κs = search needs
+
+enum-known-r : tie.Need-enum-known-r
+enum-known-r c = search needs
+
+enum-told : tie.Need-enum-told
+enum-told c = search needs
+
+cast-check-position-2 : tie.Need-cast-check-position-2
+cast-check-position-2 c = search needs
+
+check-position-requires-2 : tie.Need-check-position-requires-2
+check-position-requires-2 c κs = search needs
+
+returns : tie.Need-returns
+returns c =
+    let a = c .before .before .before .before .before .before .before .before .before .args in
+    let same = c .before .before .before .before .before .before .if1 .taken in
+    places-own (a .own) (a .other) same _ (c .before .before .before .check-position .ensures) _ (c .before .r .given .1)
+
+returns-2 : tie.Need-returns-2
+returns-2 c =
+    let a = c .before .before .before .before .before .before .before .before .before .before .args in
+    let same = c .before .before .before .before .before .before .before .if1 .taken in
+    places-other (a .own) (a .other) same _ (c .before .before .before .before .check-position .ensures) _ (c .before .before .enum-told .given .1) (c .check-position2 .ensures)
+
+returns-3 : tie.Need-returns-3
+returns-3 c = places-unequal (c .before .before .before .args .own) (c .before .before .before .args .other) (c .if1 .left)
+
+pub check-places-spec : {M : Type 1} → statement M
+check-places-spec =
+    tie.close
+    (tie.spec
+    cast-c
+    cast-check-position
+    check-position-requires
+    enum-known-r
+    enum-told
+    cast-check-position-2
+    check-position-requires-2
+    returns
+    returns-2
+    returns-3)

@@ -1,0 +1,89 @@
+-- What each call for two drives returns and what it leaves of each lent slice, for every input: a is the record of the drive that the call is for, which comes
+-- back, b that of the other, which is only looked at. What a change does and what a slot serves are those of `orders`, at the record a.
+-- Assumes nothing.
+use mathlib.Core.List.{List, [], _∷_, _++_}
+use Prim.Native.Nat.{ℕ, _*_}
+use lib.ListN.{length, drop}
+use Rattle.pieces.specs.Board.{weight, number}
+use Rattle.calls.specs.declared.Drive.{Drive}
+use Rattle.calls.specs.declared.Served.{Served}
+use Rattle.calls.specs.declared.Rounded.{Rounded}
+use Rattle.calls.specs.declared.Reported.{Reported}
+use Rattle.calls.specs.Answers.{Answer, answered}
+use Rattle.calls.specs.Results.{ifClear, roundingBy, roundNames, reportBy, reportedSpacing}
+use Rattle.sheets.specs.declared.Saved.{Saved}
+use Rattle.sheets.specs.Sheet.{blocks, sheet}
+use Rattle.sheets.specs.Results.{savingBy}
+use Rattle.waiting.specs.declared.Order.{Order}
+use Rattle.waiting.specs.Layout.{takenList}
+use Rattle.orders.specs.declared.Ordered.{Ordered}
+use Rattle.orders.specs.Results.{carriedBoard, changedBy, changedAnswerBy, boardBy, listBy, boardIf, listIf, servedBy, servedAnswerBy}
+use Rattle.drives.specs.Checks.{listCheck, bothStart, wayOf, pairRoundCheck, pairReportCheck, pairSaveCheck}
+
+-- ---- add and remove, by the way that is chosen
+
+abbrev pub changed : Drive → Drive → List ℕ → List ℕ → Order → Ordered
+changed a b B L o = changedBy (wayOf a b B L o) a B L o
+
+abbrev pub changedAnswer : Drive → Drive → List ℕ → List ℕ → Order → Answer
+changedAnswer a b B L o = changedAnswerBy (wayOf a b B L o) a B L o
+
+abbrev pub changedBoard : Drive → Drive → List ℕ → List ℕ → Order → List ℕ
+changedBoard a b B L o = boardBy (wayOf a b B L o) (carriedBoard a B o) B
+
+abbrev pub changedList : Drive → Drive → List ℕ → List ℕ → Order → List ℕ
+changedList a b B L o = listBy (wayOf a b B L o) (takenList L o) L
+
+-- ---- slot: where both records are at the start of a round the list is run, and then the leaf is picked
+
+unfoldable pub boardThen : Drive → Drive → List ℕ → List ℕ → List ℕ
+boardThen a b B L = boardIf (bothStart a b) a B L
+
+unfoldable pub listThen : Drive → Drive → List ℕ → List ℕ → List ℕ
+listThen a b B L = listIf (bothStart a b) a B L
+
+abbrev pub served : Drive → Drive → List ℕ → List ℕ → Served
+served a b B L = servedBy (listCheck a b B (length L)) a (boardThen a b B L)
+
+abbrev pub servedAnswer : Drive → Drive → List ℕ → List ℕ → Answer
+servedAnswer a b B L = servedAnswerBy (listCheck a b B (length L)) a (boardThen a b B L)
+
+abbrev pub servedBoard : Drive → Drive → List ℕ → List ℕ → List ℕ
+servedBoard a b B L = ifClear (listCheck a b B (length L)) (boardThen a b B L) B
+
+abbrev pub servedList : Drive → Drive → List ℕ → List ℕ → List ℕ
+servedList a b B L = ifClear (listCheck a b B (length L)) (listThen a b B L) L
+
+-- ---- round, report, save: those of one drive, by the checks of both records
+
+abbrev pub rounded : Drive → Drive → List ℕ → List ℕ → Rounded
+rounded a b B O = record { drive = a; answer = roundingBy (pairRoundCheck a b B (length O)) }
+
+abbrev pub roundedAnswer : Drive → Drive → List ℕ → List ℕ → Answer
+roundedAnswer a b B O = answered (pairRoundCheck a b B (length O)) []
+
+abbrev pub roundedOutput : Drive → Drive → List ℕ → List ℕ → List ℕ
+roundedOutput a b B O =
+    let done = roundNames (a .capacity) B ++ drop (a .capacity) O in
+    ifClear (pairRoundCheck a b B (length O)) done O
+
+abbrev pub reported : Drive → Drive → List ℕ → ℕ → Reported
+reported a b B x =
+    let w = weight (a .capacity) B x in
+    let n = number (a .capacity) B x in
+    let s = reportedSpacing a B x in
+    record { drive = a; answer = reportBy (pairReportCheck a b B x) w n s }
+
+abbrev pub reportedAnswer : Drive → Drive → List ℕ → ℕ → Answer
+reportedAnswer a b B x = answered (pairReportCheck a b B x) (weight (a .capacity) B x ∷ number (a .capacity) B x ∷ reportedSpacing a B x ∷ [])
+
+abbrev pub saved : Drive → Drive → List ℕ → List ℕ → Saved
+saved a b B O = record { drive = a; answer = savingBy (pairSaveCheck a b B (length O)) (512 * blocks (a .capacity)) }
+
+abbrev pub savedAnswer : Drive → Drive → List ℕ → List ℕ → Answer
+savedAnswer a b B O = answered (pairSaveCheck a b B (length O)) (512 * blocks (a .capacity) ∷ [])
+
+abbrev pub savedOutput : Drive → Drive → List ℕ → List ℕ → List ℕ
+savedOutput a b B O =
+    let done = sheet (a .capacity) B ++ drop (512 * blocks (a .capacity)) O in
+    ifClear (pairSaveCheck a b B (length O)) done O

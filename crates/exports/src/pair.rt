@@ -1,0 +1,125 @@
+// The functions that C and Rust link for two drives on one board: `own` is the record of the drive that the call is for and comes back, `other` is the other
+// drive's. Open, read and fetch are those of one drive.
+ghost use mathlib.Core.Path.{_≡_};
+ghost use Rattle.orders.specs.Results.{addOrder, removeOrder};
+ghost use Rattle.drives.specs.Results as results;
+ghost use Rattle.exports.specs.Replies.{reply};
+use crate::Reply;
+use crate::said_ordering;
+use crate::said_report;
+use crate::said_rounding;
+use crate::said_saving;
+use crate::said_serving;
+use calls::Drive;
+
+// Admits a stream, at once where both drives are at the start of a round and no order waits, or by an order that waits.
+#[no_mangle]
+pub extern "C" fn mandrozsi_pair_add(
+    own: Drive,
+    other: Drive,
+    board: &mut [u16],
+    list: &mut [u64],
+    name: u16,
+    weight: u16,
+) -> Reply
+    ensures { λ r. ⌜ (r ≡ reply own (results.changedAnswer own other (now (board .entry)) (now (list .entry)) (addOrder name weight))) × (now (board .exit) ≡ results.changedBoard own other (now (board .entry)) (now (list .entry)) (addOrder name weight)) × (now (list .exit) ≡ results.changedList own other (now (board .entry)) (now (list .entry)) (addOrder name weight)) ⌝ }
+{
+    let added = drives::add(own, other, board, list, name, weight);
+    let after = added.drive;
+    let answer = added.answer;
+    Reply {
+        drive: after,
+        said: said_ordering(answer),
+    }
+}
+
+// Removes a stream, likewise.
+#[no_mangle]
+pub extern "C" fn mandrozsi_pair_remove(
+    own: Drive,
+    other: Drive,
+    board: &mut [u16],
+    list: &mut [u64],
+    name: u16,
+) -> Reply
+    ensures { λ r. ⌜ (r ≡ reply own (results.changedAnswer own other (now (board .entry)) (now (list .entry)) (removeOrder name))) × (now (board .exit) ≡ results.changedBoard own other (now (board .entry)) (now (list .entry)) (removeOrder name)) × (now (list .exit) ≡ results.changedList own other (now (board .entry)) (now (list .entry)) (removeOrder name)) ⌝ }
+{
+    let removed = drives::remove(own, other, board, list, name);
+    let after = removed.drive;
+    let answer = removed.answer;
+    Reply {
+        drive: after,
+        said: said_ordering(answer),
+    }
+}
+
+// Serves a slot of the own drive, whose record moves on. Where both drives are at the start of a round the orders that wait are carried out first.
+#[no_mangle]
+pub extern "C" fn mandrozsi_pair_slot(
+    own: Drive,
+    other: Drive,
+    board: &mut [u16],
+    list: &mut [u64],
+) -> Reply
+    ensures { λ r. ⌜ (r ≡ reply (results.served own other (now (board .entry)) (now (list .entry)) .drive) (results.servedAnswer own other (now (board .entry)) (now (list .entry)))) × (now (board .exit) ≡ results.servedBoard own other (now (board .entry)) (now (list .entry))) × (now (list .exit) ≡ results.servedList own other (now (board .entry)) (now (list .entry))) ⌝ }
+{
+    let served = drives::slot(own, other, board, list);
+    let after = served.drive;
+    let answer = served.answer;
+    Reply {
+        drive: after,
+        said: said_serving(answer),
+    }
+}
+
+// Writes the names of a full round to the start of the output.
+#[no_mangle]
+pub extern "C" fn mandrozsi_pair_round(
+    own: Drive,
+    other: Drive,
+    board: &[u16],
+    output: &mut [u16],
+) -> Reply
+    ensures { λ r. ⌜ (r ≡ reply own (results.roundedAnswer own other (now (board .entry)) (now (output .entry)))) × (now (output .exit) ≡ results.roundedOutput own other (now (board .entry)) (now (output .entry))) ⌝ }
+{
+    let rounded = drives::round(own, other, board, output);
+    let after = rounded.drive;
+    let answer = rounded.answer;
+    Reply {
+        drive: after,
+        said: said_rounding(answer),
+    }
+}
+
+// Reports on a stream: weight, number of pieces, spacing.
+#[no_mangle]
+pub extern "C" fn mandrozsi_pair_report(own: Drive, other: Drive, board: &[u16], name: u16) -> Reply
+    ensures { λ r. ⌜ r ≡ reply own (results.reportedAnswer own other (now (board .entry)) name) ⌝ }
+{
+    let reported = drives::report(own, other, board, name);
+    let after = reported.drive;
+    let answer = reported.answer;
+    Reply {
+        drive: after,
+        said: said_report(answer),
+    }
+}
+
+// Saves a board, where both drives are at the start of a round.
+#[no_mangle]
+pub extern "C" fn mandrozsi_pair_save(
+    own: Drive,
+    other: Drive,
+    board: &[u16],
+    output: &mut [u8],
+) -> Reply
+    ensures { λ r. ⌜ (r ≡ reply own (results.savedAnswer own other (now (board .entry)) (now (output .entry)))) × (now (output .exit) ≡ results.savedOutput own other (now (board .entry)) (now (output .entry))) ⌝ }
+{
+    let saved = drives::save(own, other, board, output);
+    let after = saved.drive;
+    let answer = saved.answer;
+    Reply {
+        drive: after,
+        said: said_saving(answer),
+    }
+}
