@@ -56,6 +56,16 @@ typedef struct mandrozsi_reply {
     mandrozsi_said said;
 } mandrozsi_reply;
 
+/* An entry of a table of changes: what is asked (kind 1: add, 2: remove, which looks at no weight), and the place for its answer, the number and its
+ * value: the idle leaves of 0 and 10, the ticket of 13, and else 0. */
+typedef struct mandrozsi_entry {
+    uint16_t kind;
+    uint16_t name;
+    uint16_t weight;
+    uint16_t number;
+    uint64_t value;
+} mandrozsi_entry;
+
 /* The numbers of an answer. */
 enum mandrozsi_number {
     MANDROZSI_DONE = 0,
@@ -138,6 +148,19 @@ mandrozsi_reply mandrozsi_pair_round(mandrozsi_drive own, mandrozsi_drive other,
 mandrozsi_reply mandrozsi_pair_report(mandrozsi_drive own, mandrozsi_drive other, const uint16_t *board, size_t entries, uint16_t name);
 mandrozsi_reply mandrozsi_pair_save(mandrozsi_drive own, mandrozsi_drive other, const uint16_t *board, size_t entries, uint8_t *output,
                                     size_t length);
+
+/* Carries out a table of changes from the first entry to the last, each as the single call would, and writes each one's answer to its place; nothing
+ * else of the table changes. A refused entry does not stop the rest. A kind that is neither 1 nor 2 is answered 7, whatever else is wrong. The record
+ * comes back as it was. */
+mandrozsi_drive mandrozsi_pair_batch(mandrozsi_drive own, mandrozsi_drive other, uint16_t *board, size_t entries, uint64_t *list, size_t numbers,
+                                     mandrozsi_entry *table, size_t changes);
+
+/* The same for one drive, with its record in both places. */
+static inline mandrozsi_drive mandrozsi_batch(mandrozsi_drive drive, uint16_t *board, size_t entries, uint64_t *list, size_t numbers,
+                                              mandrozsi_entry *table, size_t changes)
+{
+    return mandrozsi_pair_batch(drive, drive, board, entries, list, numbers, table, changes);
+}
 
 #ifdef __cplusplus
 }

@@ -26,9 +26,11 @@
 //! ```
 use std::fmt;
 
+mod batch;
 mod pair;
 pub mod raw;
 
+pub use batch::Entry;
 pub use pair::{Pair, Side};
 
 use raw::{Reply, Said};
@@ -219,7 +221,7 @@ impl Reply {
     pub fn done(self) -> Result<Reply, Refusal> {
         match self.said.number {
             0 => Ok(self),
-            number => Err(Refusal::from_number(short(number), short(self.said.first)).expect("the library's numbers are 0 to 15")),
+            number => Err(refused(number, self.said.first)),
         }
     }
 }
@@ -230,12 +232,20 @@ fn short(value: u64) -> u16 {
 }
 
 fn changed(reply: Reply) -> Result<Change, Refusal> {
-    if reply.said.number == 13 {
-        return Ok(Change::Waiting { ticket: reply.said.first });
+    change_of(reply.said.number, reply.said.first)
+}
+
+/// An answer of add and remove: its number, and the value that goes with it.
+fn change_of(number: u64, value: u64) -> Result<Change, Refusal> {
+    match number {
+        0 => Ok(Change::Done { idle: short(value) }),
+        13 => Ok(Change::Waiting { ticket: value }),
+        _ => Err(refused(number, value)),
     }
-    Ok(Change::Done {
-        idle: short(reply.done()?.said.first),
-    })
+}
+
+fn refused(number: u64, value: u64) -> Refusal {
+    Refusal::from_number(short(number), short(value)).expect("the library's numbers are 0 to 15")
 }
 
 /// What slot says; the record moves on.
@@ -284,6 +294,12 @@ impl Drive {
     pub fn remove(self, board: &mut [u16], list: &mut [u64], name: u16) -> Result<Change, Refusal> {
         let (entries, numbers) = (board.len(), list.len());
         changed(unsafe { raw::mandrozsi_remove(self, board.as_mut_ptr(), entries, list.as_mut_ptr(), numbers, name) })
+    }
+
+    /// Carries out a table of changes from the first entry to the last, each as the single call would; each entry's answer is then in its place. A
+    /// refused entry does not stop the rest.
+    pub fn batch(self, board: &mut [u16], list: &mut [u64], table: &mut [Entry]) {
+        batch::carry_out(self, self, board, list, table)
     }
 
     /// Serves the slot at the position, and moves the record on. At the start of a round the orders that wait are carried out first. Any board will

@@ -1,5 +1,5 @@
 //! Two drives that share a board and a waiting list.
-use crate::{changed, raw, reported, served, Change, Drive, Refusal, Slot, Stream};
+use crate::{batch, changed, raw, reported, served, Change, Drive, Entry, Refusal, Slot, Stream};
 
 /// The drive that a call is for.
 #[derive(Clone, Copy, Debug, PartialEq, Eq, Hash)]
@@ -69,6 +69,12 @@ impl Pair {
     pub fn remove(self, side: Side, board: &mut [u16], list: &mut [u64], name: u16) -> Result<Change, Refusal> {
         let ((own, other), entries, numbers) = (self.own(side), board.len(), list.len());
         changed(unsafe { raw::mandrozsi_pair_remove(own, other, board.as_mut_ptr(), entries, list.as_mut_ptr(), numbers, name) })
+    }
+
+    /// As [`Drive::batch`].
+    pub fn batch(self, side: Side, board: &mut [u16], list: &mut [u64], table: &mut [Entry]) {
+        let (own, other) = self.own(side);
+        batch::carry_out(own, other, board, list, table)
     }
 
     /// Serves a slot of one drive, and moves its record on. Refused: 1 to 3.

@@ -1,6 +1,6 @@
 //! The boundary as it stands: the functions of the static library. A slice is a pointer that is never null, and then a length; two slices of one
 //! call do not overlap.
-use crate::Drive;
+use crate::{Drive, Entry};
 
 /// What a call says: the number (0 for done), and the values; a value that an answer does not have is 0.
 #[repr(C)]
@@ -46,4 +46,14 @@ extern "C" {
     pub fn mandrozsi_pair_round(own: Drive, other: Drive, board: *const u16, entries: usize, output: *mut u16, length: usize) -> Reply;
     pub fn mandrozsi_pair_report(own: Drive, other: Drive, board: *const u16, entries: usize, name: u16) -> Reply;
     pub fn mandrozsi_pair_save(own: Drive, other: Drive, board: *const u16, entries: usize, output: *mut u8, length: usize) -> Reply;
+    pub fn mandrozsi_pair_batch(
+        own: Drive,
+        other: Drive,
+        board: *mut u16,
+        entries: usize,
+        list: *mut u64,
+        numbers: usize,
+        table: *mut Entry,
+        changes: usize,
+    ) -> Drive;
 }

@@ -2,8 +2,9 @@
 #![cfg(any(linked, served))]
 mod boundary;
 
-use boundary::{drive, record, Boundary};
+use boundary::{asked, drive, left_in, record, Boundary};
 use mandrozsi::{fetch, Change, Drive, Fetched, Pair, Refusal, Side};
+use paper::batch::Entry;
 use paper::trial::{compare, Calls};
 use paper::{at, Answer, Record, Records};
 
@@ -85,6 +86,19 @@ impl Calls for Safe {
         told(record(own), result, |slot| {
             (record(own), [slot.name.into(), slot.leaf.into(), slot.passed.into(), slot.round])
         })
+    }
+    fn batch(&self, r: Records, board: &mut [u16], list: &mut [u64], table: &mut [Entry]) -> Record {
+        let mut lent: Vec<_> = table.iter().map(asked).collect();
+        match pair(r) {
+            None => drive(r.own).batch(board, list, &mut lent),
+            Some((pair, side)) => pair.batch(side, board, list, &mut lent),
+        }
+        for (entry, left) in table.iter_mut().zip(&lent) {
+            *entry = left_in(left);
+            let again = change(r.own, left.answer());
+            assert_eq!((again.number, again.values[0]), (left.number, left.value));
+        }
+        r.own
     }
     fn round(&self, r: Records, board: &[u16], output: &mut [u16]) -> Answer {
         let result = match pair(r) {

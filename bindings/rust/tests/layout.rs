@@ -1,19 +1,24 @@
 //! The Rust types against the C header: the header is read, and its structs, numbers and functions are held to what this crate has.
 use mandrozsi::raw::{Reply, Said};
-use mandrozsi::{Drive, Refusal, LIST};
+use mandrozsi::{Drive, Entry, Refusal, LIST};
 use std::mem::{align_of, offset_of, size_of};
 
 const HEADER: &str = include_str!("../../c/mandrozsi.h");
 
-/// The header without its comments.
-fn code() -> String {
+/// A text without its parts from one mark to the next of another.
+fn without(text: &str, begin: &str, end: &str) -> String {
     let mut out = String::new();
-    let mut rest = HEADER;
-    while let Some((before, after)) = rest.split_once("/*") {
+    let mut rest = text;
+    while let Some((before, after)) = rest.split_once(begin) {
         out.push_str(before);
-        rest = after.split_once("*/").expect("a comment ends").1;
+        rest = after.split_once(end).expect("a part ends").1;
     }
     out + rest
+}
+
+/// The header without its comments and without the functions that it has itself.
+fn code() -> String {
+    without(&without(HEADER, "/*", "*/"), "static inline", "\n}\n")
 }
 
 /// The fields of a struct of the header with their offsets, its size and its alignment: C's layout, each member at the next multiple of its own
@@ -68,7 +73,18 @@ fn structs() {
     assert_eq!(layout(&code, "mandrozsi_said"), (named(&said), size_of::<Said>(), align_of::<Said>()));
     let reply = [("drive", offset_of!(Reply, drive)), ("said", offset_of!(Reply, said))];
     assert_eq!(layout(&code, "mandrozsi_reply"), (named(&reply), size_of::<Reply>(), align_of::<Reply>()));
-    assert_eq!((size_of::<Drive>(), size_of::<Said>(), size_of::<Reply>()), (16, 40, 56));
+    let entry = [
+        ("kind", offset_of!(Entry, kind)),
+        ("name", offset_of!(Entry, name)),
+        ("weight", offset_of!(Entry, weight)),
+        ("number", offset_of!(Entry, number)),
+        ("value", offset_of!(Entry, value)),
+    ];
+    assert_eq!(layout(&code, "mandrozsi_entry"), (named(&entry), size_of::<Entry>(), align_of::<Entry>()));
+    assert_eq!(
+        (size_of::<Drive>(), size_of::<Said>(), size_of::<Reply>(), size_of::<Entry>()),
+        (16, 40, 56, 16)
+    );
 }
 
 #[test]
@@ -121,6 +137,7 @@ fn kinds(parameters: &str, rust: bool) -> Vec<String> {
         let bare = bare.or(["u64", "uint64_t"].iter().any(|t| kind.contains(t)).then_some("u64"));
         let bare = bare.or(["*mut u8", "*const u8", "uint8_t"].iter().any(|t| kind.contains(t)).then_some("u8"));
         let bare = bare.or((kind.contains("usize") || kind.contains("size_t")).then_some("size"));
+        let bare = bare.or(kind.to_lowercase().contains("entry").then_some("entry"));
         format!(
             "{}{}{}",
             if shared { "const " } else { "" },
@@ -144,7 +161,8 @@ fn declared(text: &str, rust: bool) -> Vec<(&str, &str, Vec<String>)> {
         } else {
             before.trim_end().rsplit([' ', '\n', ';']).next().unwrap()
         };
-        let back = if back.to_lowercase().ends_with("said") { "said" } else { "reply" };
+        let back = back.to_lowercase();
+        let back = ["said", "drive", "reply"].into_iter().find(|kind| back.ends_with(kind)).unwrap();
         found.push((back, name, kinds(parameters, rust)));
     }
     found
@@ -155,7 +173,7 @@ fn functions() {
     let code = code();
     let header = declared(&code, false);
     let rust = declared(include_str!("../src/raw.rs"), true);
-    assert_eq!(header.len(), 15);
+    assert_eq!(header.len(), 16);
     assert_eq!(header, rust);
     let alone: Vec<_> = header.iter().filter(|(back, ..)| *back == "said").map(|(_, name, _)| *name).collect();
     assert_eq!(alone, ["mandrozsi_fetch"]);

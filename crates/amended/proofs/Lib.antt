@@ -1,4 +1,4 @@
--- The demands as amended stand in Demands, for two drives in TwoDemands. The rest is inner.
+-- The demands as amended stand in Demands, for two drives in TwoDemands, and for tables of changes in Batches. The rest is inner.
 mod Projecting
 mod Carrying
 mod Projection
@@ -17,5 +17,6 @@ mod TurnLists
 mod TurnPromised
 pub mod Demands
 pub mod TwoDemands
+pub mod Batches
 mod Examples
 mod TurnExamples

@@ -6,3 +6,4 @@ pub mod Refusing
 pub mod Fates
 pub mod Turns
 pub mod Sharing
+pub mod Batches

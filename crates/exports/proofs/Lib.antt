@@ -1,1 +1,4 @@
-pub mod Replying
+-- All of it is inner.
+mod Replying
+mod Turns
+mod Walking

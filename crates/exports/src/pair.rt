@@ -2,6 +2,7 @@
 // drive's. Open, read and fetch are those of one drive.
 ghost use mathlib.Core.Path.{_≡_};
 ghost use Rattle.orders.specs.Results.{addOrder, removeOrder};
+ghost use Rattle.batch.specs.Promises.{Batches};
 ghost use Rattle.drives.specs.Results as results;
 ghost use Rattle.exports.specs.Replies.{reply};
 use crate::Reply;
@@ -10,6 +11,7 @@ use crate::said_report;
 use crate::said_rounding;
 use crate::said_saving;
 use crate::said_serving;
+use batch::Entry;
 use calls::Drive;
 
 // Admits a stream, at once where both drives are at the start of a round and no order waits, or by an order that waits.
@@ -122,4 +124,27 @@ pub extern "C" fn mandrozsi_pair_save(
         drive: after,
         said: said_saving(answer),
     }
+}
+
+// Carries out a table of changes from first to last, each as the single call would, and writes its answer beside it. A refused entry does not stop the rest.
+// A lent slice of structs asks for a proof that walks the code by hand: the loop alone stands here.
+#[no_mangle]
+pub extern "C" fn mandrozsi_pair_batch(
+    own: Drive,
+    other: Drive,
+    board: &mut [u16],
+    list: &mut [u64],
+    table: &mut [Entry],
+) -> Drive
+    ensures { λ r. ⌜ Batches own other (now (board .entry)) (now (list .entry)) (now (table .entry)) r (now (board .exit)) (now (list .exit)) (now (table .exit)) ⌝ }
+{
+    let mut here = own;
+    let mut i = 0;
+    while i < table.len() {
+        let done = batch::carry_entry(here, other, board, list, table[i]);
+        here = done.drive;
+        table[i] = done.entry;
+        i += 1;
+    }
+    here
 }

@@ -1,6 +1,8 @@
 //! Documents 01 and 02 in plain Rust, written from the papers and from nothing else, to compare the proved library with.
 //! [`letter`] follows the papers' words and cares for nothing else; [`hand`] is what one would write for speed. [`waiting`] has the waiting list over
-//! either, and [`drives`] what changes where two drives share a board.
+//! either, [`drives`] what changes where two drives share a board, and [`batch`] the
+//! table of changes.
+pub mod batch;
 pub mod drives;
 pub mod hand;
 pub mod letter;

@@ -1,5 +1,6 @@
 //! Comparison of any version of the calls with [`letter`]: the answer, the record and every entry of every lent slice, on every small board and
 //! on many thousand random inputs.
+use crate::batch::{self, Entry};
 use crate::random::Random;
 use crate::waiting::{self, AtOnce, LENGTH};
 use crate::{at, drives, hand, letter, Answer, Record, Records};
@@ -10,6 +11,11 @@ pub trait Calls {
     fn add(&self, records: Records, board: &mut [u16], list: &mut [u64], name: u16, weight: u16) -> Answer;
     fn remove(&self, records: Records, board: &mut [u16], list: &mut [u64], name: u16) -> Answer;
     fn slot(&self, records: Records, board: &mut [u16], list: &mut [u64]) -> Answer;
+    /// Slot with the own record moved on where it is, for a version that has it.
+    fn slot_here(&self, records: Records, board: &mut [u16], list: &mut [u64]) -> Answer {
+        self.slot(records, board, list)
+    }
+    fn batch(&self, records: Records, board: &mut [u16], list: &mut [u64], table: &mut [Entry]) -> Record;
     fn round(&self, records: Records, board: &[u16], output: &mut [u16]) -> Answer;
     fn report(&self, records: Records, board: &[u16], name: u16) -> Answer;
     fn save(&self, records: Records, board: &[u16], output: &mut [u8]) -> Answer;
@@ -66,6 +72,9 @@ macro_rules! version {
             fn slot(&self, records: Records, board: &mut [u16], list: &mut [u64]) -> Answer {
                 waiting::slot::<Self>(records, board, list)
             }
+            fn batch(&self, records: Records, board: &mut [u16], list: &mut [u64], table: &mut [Entry]) -> Record {
+                batch::batch::<Self>(records, board, list, table)
+            }
             fn round(&self, records: Records, board: &[u16], output: &mut [u16]) -> Answer {
                 drives::round::<Self>(records, board, output)
             }
@@ -97,12 +106,12 @@ version! {
 
 /// How often each call gave each number, done as 0.
 #[derive(Default)]
-pub struct Tally([[usize; 16]; 9]);
+pub struct Tally([[usize; 16]; 10]);
 
-const NAMES: [&str; 9] = ["open", "add", "remove", "slot", "round", "report", "save", "read", "fetch"];
+const NAMES: [&str; 10] = ["open", "add", "remove", "slot", "round", "report", "save", "read", "fetch", "batch"];
 
 /// What each call may answer.
-const MAY: [&[usize]; 9] = [
+const MAY: [&[usize]; 10] = [
     &[0, 1, 2],
     &[0, 1, 2, 3, 5, 6, 7, 8, 10, 13, 14],
     &[0, 1, 2, 3, 5, 6, 9, 13, 14],
@@ -112,14 +121,15 @@ const MAY: [&[usize]; 9] = [
     &[0, 1, 2, 3, 4, 5, 11],
     &[0, 1, 2, 5, 12],
     &[0, 5, 8, 9, 10, 13, 15],
+    &[0, 1, 2, 3, 5, 6, 7, 8, 9, 10, 13, 14],
 ];
 
 /// The calls that are given a record, and so the record of another drive too.
-const GIVEN: std::ops::Range<usize> = 1..7;
+const GIVEN: [usize; 7] = [1, 2, 3, 4, 5, 6, 9];
 
 impl Tally {
     /// Every answer that these calls may give was met, and no other.
-    pub fn is_whole(&self, calls: std::ops::Range<usize>) {
+    pub fn is_whole(&self, calls: impl IntoIterator<Item = usize>) {
         for call in calls {
             for (number, &count) in self.0[call].iter().enumerate() {
                 assert_eq!(count > 0, MAY[call].contains(&number), "{} answered {number} {count} times", NAMES[call]);
@@ -213,10 +223,41 @@ impl<'a, C: Calls> Trial<'a, C> {
         self.tallied(2, r.other.is_some(), answer)
     }
 
+    /// Both forms of slot, the one that moves the record where it is on copies.
     pub fn slot(&mut self, records: impl Into<Records>, board: &mut [u16], list: &mut [u64]) -> Answer {
         let r = records.into();
+        self.same(
+            3,
+            &r,
+            &mut board.to_vec(),
+            &mut list.to_vec(),
+            |calls, b, l| calls.slot_here(r, b, l),
+            |b, l| Letter.slot(r, b, l),
+        );
         let answer = self.same(3, &r, board, list, |calls, b, l| calls.slot(r, b, l), |b, l| Letter.slot(r, b, l));
         self.tallied(3, r.other.is_some(), answer)
+    }
+
+    /// A table of changes: the record and every entry are compared.
+    pub fn batch(&mut self, records: impl Into<Records>, board: &mut [u16], list: &mut [u64], table: &mut [Entry]) {
+        let r = records.into();
+        let carried = |calls: &dyn Calls, b: &mut [u16], l: &mut [u64]| {
+            let mut entries = table.to_vec();
+            (calls.batch(r, b, l, &mut entries), entries)
+        };
+        let (_, entries) = self.same(
+            9,
+            &(r, &table),
+            board,
+            list,
+            |calls, b, l| carried(calls, b, l),
+            |b, l| carried(&Letter, b, l),
+        );
+        table.copy_from_slice(&entries);
+        let tally = if r.other.is_some() { &mut self.tally_of_two } else { &mut self.tally };
+        for entry in table {
+            tally.0[9][usize::from(entry.number)] += 1;
+        }
     }
 
     pub fn round(&mut self, records: impl Into<Records>, board: &[u16], output: &mut [u16]) -> Answer {
@@ -419,7 +460,12 @@ impl<'a, C: Calls> Trial<'a, C> {
                         self.fetch(&mut list, ticket, false);
                     }
                 }
-                12 => self.odd(&mut random, records, &board, &names),
+                12 => {
+                    self.odd(&mut random, records, &board, &names);
+                    let mut table = some_table(&mut random, &names);
+                    self.batch(records, &mut board, &mut list, &mut table);
+                    names.extend(table.iter().filter(|e| e.kind == 1 && e.number == 0).map(|e| e.name));
+                }
                 _ => self.wrong(&mut random, records, &board, &list, &names),
             }
             if random.one_in(60) {
@@ -496,6 +542,7 @@ impl<'a, C: Calls> Trial<'a, C> {
         self.add(r, &mut board.to_vec(), &mut list.clone(), name, weight);
         self.remove(r, &mut board.to_vec(), &mut list.clone(), name);
         self.slot(r, &mut board.to_vec(), &mut list.clone());
+        self.batch(r, &mut board.to_vec(), &mut list.clone(), &mut some_table(random, names));
         self.fetch(&mut list, random.pick(&[0, 1, 2]), false);
         self.round(r, board, &mut vec![5; random.below(2 * lent + 1)]);
         self.report(r, board, name);
@@ -513,6 +560,7 @@ impl<'a, C: Calls> Trial<'a, C> {
         self.add(records, &mut board.clone(), &mut list.to_vec(), name, 1);
         self.remove(records, &mut board.clone(), &mut list.to_vec(), name);
         self.slot(records, &mut board.clone(), &mut list.to_vec());
+        self.batch(records, &mut board.clone(), &mut list.to_vec(), &mut some_table(random, names));
         self.report(records, &board, name);
         let mut sheet = vec![3; 17 * 512];
         self.save(records, &board, &mut sheet);
@@ -640,6 +688,20 @@ fn some_list(random: &mut Random, names: &[u16]) -> Vec<u64> {
         }
     }
     list
+}
+
+/// A table of up to a hundred changes, with kinds that are none and with old answers in their places.
+fn some_table(random: &mut Random, names: &[u16]) -> Vec<Entry> {
+    let many = random.pick(&[0, 1, 2, 5, 5, 100]);
+    (0..many)
+        .map(|_| Entry {
+            kind: random.pick(&[1, 1, 1, 2, 2, 0, 3, 65535]),
+            name: some_name(random, names),
+            weight: random.pick(&[0, 1, 1, 1, 2, 3, 65535]),
+            number: random.draw() as u16,
+            value: random.draw(),
+        })
+        .collect()
 }
 
 /// A ticket that stands on the list, or is near the last one given, or none.

@@ -256,3 +256,48 @@ fn two_drives() {
     slot::<P>(both(a, b), &mut board, &mut list);
     assert_eq!(fetch(&mut list, 2), (0, 2));
 }
+
+/// Document 02, No. 3: a table at the start of a round and in the middle of one, with entries that are refused between those that are not.
+#[test]
+fn tables() {
+    use paper::batch::{batch, Entry};
+    use paper::trial::Letter as P;
+    use paper::waiting::{open, LENGTH};
+    let asked = |kind, name, weight| Entry {
+        kind,
+        name,
+        weight,
+        number: 99,
+        value: 99,
+    };
+    let answers = |table: &[Entry]| -> Vec<(u16, u64)> { table.iter().map(|e| (e.number, e.value)).collect() };
+    let (mut board, mut list) = ([0; 4], [0; LENGTH]);
+    let start = open::<P>(4, &mut board, &mut list).record;
+
+    let mut table = [
+        asked(1, 7, 2),
+        asked(9, 8, 1),
+        asked(1, 7, 1),
+        asked(1, 8, 3),
+        asked(2, 7, 0),
+        asked(1, 8, 3),
+        asked(1, 0, 0),
+    ];
+    assert_eq!(batch::<P>(start.into(), &mut board, &mut list, &mut table), start);
+    assert_eq!(answers(&table), [(0, 2), (7, 0), (8, 0), (10, 2), (0, 4), (0, 1), (6, 0)]);
+    assert_eq!(board, [8, 8, 8, 0]);
+
+    // Away from p = 1 the first 64 wait, and the rest are 14; nothing of the board changes.
+    let away = Record { position: 2, ..start };
+    let mut table = [asked(2, 8, 0); 66];
+    batch::<P>(away.into(), &mut board, &mut list, &mut table);
+    assert_eq!((table[0].value, table[63].value), (1, 64));
+    assert_eq!(answers(&table[64..]), [(14, 0), (14, 0)]);
+    assert_eq!(board, [8, 8, 8, 0]);
+
+    // A kind that is none is 7 before 1; an empty table changes nothing.
+    let mut table = [asked(9, 0, 0), asked(1, 0, 0)];
+    batch::<P>(at(0, 0).into(), &mut board, &mut list, &mut table);
+    assert_eq!(answers(&table), [(7, 0), (1, 0)]);
+    assert_eq!(batch::<P>(start.into(), &mut board, &mut list, &mut []), start);
+}

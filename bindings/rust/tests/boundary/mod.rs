@@ -1,6 +1,7 @@
 //! The library's functions as a version of the calls, with all that they answer: for the comparison and for the benchmark.
 use mandrozsi::raw::{self, Reply, Said};
 use mandrozsi::Drive;
+use paper::batch::Entry;
 use paper::trial::Calls;
 use paper::{Answer, Record, Records};
 
@@ -20,6 +21,27 @@ pub fn record(drive: Drive) -> Record {
         capacity: drive.capacity,
         position: drive.position,
         round: drive.round,
+    }
+}
+
+/// An entry as the library has it, and back.
+pub fn asked(e: &Entry) -> mandrozsi::Entry {
+    mandrozsi::Entry {
+        kind: e.kind,
+        name: e.name,
+        weight: e.weight,
+        number: e.number,
+        value: e.value,
+    }
+}
+
+pub fn left_in(e: &mandrozsi::Entry) -> Entry {
+    Entry {
+        kind: e.kind,
+        name: e.name,
+        weight: e.weight,
+        number: e.number,
+        value: e.value,
     }
 }
 
@@ -74,6 +96,17 @@ impl Calls for Boundary {
                 Some(other) => raw::mandrozsi_pair_slot(own, drive(other), board, entries, list, numbers),
             }
         })
+    }
+    fn batch(&self, r: Records, board: &mut [u16], list: &mut [u64], table: &mut [Entry]) -> Record {
+        let (board, entries, list, numbers) = (board.as_mut_ptr(), board.len(), list.as_mut_ptr(), list.len());
+        let own = drive(r.own);
+        let other = r.other.map_or(own, drive);
+        let mut lent: Vec<_> = table.iter().map(asked).collect();
+        let after = unsafe { raw::mandrozsi_pair_batch(own, other, board, entries, list, numbers, lent.as_mut_ptr(), lent.len()) };
+        for (entry, left) in table.iter_mut().zip(&lent) {
+            *entry = left_in(left);
+        }
+        record(after)
     }
     fn round(&self, r: Records, board: &[u16], output: &mut [u16]) -> Answer {
         let (board, entries, output, length) = (board.as_ptr(), board.len(), output.as_mut_ptr(), output.len());

@@ -2,7 +2,7 @@
 //! (bindings/c/serve.c, which says the form of a call and an answer). The crate's declarations find these functions at the link, so all that
 //! stands above them is the same as with the library. `MANDROZSI_SERVE` is the command, one word to a line. Each thread has its own process.
 use mandrozsi::raw::{Reply, Said};
-use mandrozsi::Drive;
+use mandrozsi::{Drive, Entry};
 use std::cell::RefCell;
 use std::io::{Read, Write};
 use std::mem::size_of;
@@ -210,4 +210,18 @@ unsafe extern "C" fn mandrozsi_pair_report(own: Drive, other: Drive, board: *con
 unsafe extern "C" fn mandrozsi_pair_save(own: Drive, other: Drive, board: *const u16, entries: usize, output: *mut u8, length: usize) -> Reply {
     let lent = [Lent::shared(board, entries), NONE, Lent::changed(output, length)];
     ask(14, [own, other], 0, 0, lent)
+}
+#[no_mangle]
+unsafe extern "C" fn mandrozsi_pair_batch(
+    own: Drive,
+    other: Drive,
+    board: *mut u16,
+    entries: usize,
+    list: *mut u64,
+    numbers: usize,
+    table: *mut Entry,
+    changes: usize,
+) -> Drive {
+    let lent = [Lent::changed(board, entries), Lent::changed(list, numbers), Lent::changed(table, changes)];
+    ask(15, [own, other], 0, 0, lent).drive
 }

@@ -1,0 +1,3 @@
+-- What upper crates cite is Laws.
+mod Examples
+pub mod Laws
