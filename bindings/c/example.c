@@ -9,6 +9,7 @@
 _Static_assert(sizeof(mandrozsi_drive) == 16 && offsetof(mandrozsi_drive, position) == 2 && offsetof(mandrozsi_drive, round) == 8,
                "the record is two 16-bit numbers and one of 64 bits");
 _Static_assert(sizeof(mandrozsi_said) == 40 && offsetof(mandrozsi_said, fourth) == 32, "what is said is five 64-bit numbers");
+_Static_assert(sizeof(mandrozsi_entry) == 16 && offsetof(mandrozsi_entry, value) == 8, "an entry is four 16-bit numbers and one of 64 bits");
 _Static_assert(sizeof(mandrozsi_reply) == 56 && offsetof(mandrozsi_reply, said) == 16, "a reply is the record, and what is said");
 
 static int wrong(const char *what, mandrozsi_reply got)
@@ -95,6 +96,28 @@ int main(void)
     r = mandrozsi_read(sheet, sizeof sheet, again, 8, other_list, MANDROZSI_LIST);
     if (r.said.number != MANDROZSI_BLOCK || r.drive.capacity != 0)
         return wrong("read of a damaged sheet", r);
+
+    /* The same slots on the record where it lies: from the start of round 1 to its end. */
+    for (size_t i = 0; i < 8; i++) {
+        said = mandrozsi_slot_here(&drive, board, 8, list, MANDROZSI_LIST);
+        if (said.number != MANDROZSI_DONE || said.first != (expected[i] == 2 ? 0 : expected[i]) || said.fourth != 1)
+            return wrong("slot where the record lies", (mandrozsi_reply){drive, said});
+    }
+    drive.position = 16;
+    said = mandrozsi_slot_here(&drive, board, 8, list, MANDROZSI_LIST);
+    if (said.number != MANDROZSI_POSITION || drive.position != 16 || drive.round != 2)
+        return wrong("slot at a position out of range", (mandrozsi_reply){drive, said});
+    drive.position = 1;
+
+    /* A table of changes in one call: one that is done, one without room, one of no kind. */
+    mandrozsi_entry table[3] = {{1, 3, 2, 0, 0}, {1, 4, 9, 0, 0}, {9, 5, 1, 0, 0}};
+    drive = mandrozsi_batch(drive, board, 8, list, MANDROZSI_LIST, table, 3);
+    if (table[0].number != MANDROZSI_DONE || table[0].value != 1 || table[1].number != MANDROZSI_ROOM || table[1].value != 1 ||
+        table[2].number != MANDROZSI_WEIGHT || table[2].value != 0 || drive.position != 1)
+        return wrong("a table of changes", (mandrozsi_reply){drive, {table[0].number, table[0].value, table[1].number, table[1].value, 0}});
+    r = mandrozsi_remove(drive, board, 8, list, MANDROZSI_LIST, 3);
+    if (r.said.number != MANDROZSI_DONE || r.said.first != 3)
+        return wrong("remove 3", r);
 
     r = mandrozsi_remove(drive, board, 8, list, MANDROZSI_LIST, 7);
     if (r.said.number != MANDROZSI_DONE || r.said.first != 8)

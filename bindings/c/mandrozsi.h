@@ -162,6 +162,22 @@ static inline mandrozsi_drive mandrozsi_batch(mandrozsi_drive drive, uint16_t *b
     return mandrozsi_pair_batch(drive, drive, board, entries, list, numbers, table, changes);
 }
 
+/* Serves a slot as mandrozsi_pair_slot does, on the record where it lies: it is moved on there, and left as it was where the slot is refused. Board, list
+ * and what is said are those of the call by value.
+ *
+ * Stack, measured on x86-64: 376 bytes where either drive is away from p = 1, 440 where both are there and no order waits, and 139 KiB where it carries out 64
+ * orders, since the board is then tested for damage (docs/MEASURED.md). A caller with less can see it coming: the list's third number, list[2], is not 0
+ * while orders wait. Make the slot call that finds both drives at p = 1 and list[2] not 0 from a task with more stack, lending it the same record, board
+ * and list; or let the host, which has the stack, call the changes where both drives are at p = 1, so that none ever waits. */
+mandrozsi_said mandrozsi_pair_slot_here(mandrozsi_drive *own, mandrozsi_drive other, uint16_t *board, size_t entries, uint64_t *list,
+                                        size_t numbers);
+
+/* The same for one drive, with its record in both places. */
+static inline mandrozsi_said mandrozsi_slot_here(mandrozsi_drive *drive, uint16_t *board, size_t entries, uint64_t *list, size_t numbers)
+{
+    return mandrozsi_pair_slot_here(drive, *drive, board, entries, list, numbers);
+}
+
 #ifdef __cplusplus
 }
 #endif

@@ -19,7 +19,7 @@
 enum { ROOM = 65536, MARKED = 64, MARK = 0xA5 };
 
 enum { OPEN, ADD, REMOVE, SLOT, ROUND, REPORT, SAVE, READ, FETCH };
-enum { PAIR_ADD = 9, PAIR_REMOVE, PAIR_SLOT, PAIR_ROUND, PAIR_REPORT, PAIR_SAVE, PAIR_BATCH };
+enum { PAIR_ADD = 9, PAIR_REMOVE, PAIR_SLOT, PAIR_ROUND, PAIR_REPORT, PAIR_SAVE, PAIR_BATCH, PAIR_SLOT_HERE };
 
 /* What is called, with what; the bytes of the three slices, 0 where the call has none; and the record, or the ticket in place of its round, and that
  * of the other drive. */
@@ -71,6 +71,7 @@ static mandrozsi_reply make(const struct call *c, uint16_t *board, uint64_t *lis
     mandrozsi_drive drive = {c->capacity, c->position, c->round}, partner = {c->other_capacity, c->other_position, c->other_round};
     uint16_t *names = (uint16_t *)(void *)other;
     mandrozsi_entry *table = (mandrozsi_entry *)(void *)other;
+    mandrozsi_said said;
     switch (c->number) {
     case OPEN: return mandrozsi_open(c->capacity, board, entries, list, numbers);
     case ADD: return mandrozsi_add(drive, board, entries, list, numbers, c->name, c->weight);
@@ -89,6 +90,9 @@ static mandrozsi_reply make(const struct call *c, uint16_t *board, uint64_t *lis
     case PAIR_SAVE: return mandrozsi_pair_save(drive, partner, board, entries, other, length);
     case PAIR_BATCH:
         return (mandrozsi_reply){mandrozsi_pair_batch(drive, partner, board, entries, list, numbers, table, length / sizeof *table), {0}};
+    case PAIR_SLOT_HERE:
+        said = mandrozsi_pair_slot_here(&drive, partner, board, entries, list, numbers);
+        return (mandrozsi_reply){drive, said};
     }
     end("there is no such call");
 }

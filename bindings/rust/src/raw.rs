@@ -56,4 +56,5 @@ extern "C" {
         table: *mut Entry,
         changes: usize,
     ) -> Drive;
+    pub fn mandrozsi_pair_slot_here(own: *mut Drive, other: Drive, board: *mut u16, entries: usize, list: *mut u64, numbers: usize) -> Said;
 }

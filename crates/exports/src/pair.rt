@@ -5,7 +5,9 @@ ghost use Rattle.orders.specs.Results.{addOrder, removeOrder};
 ghost use Rattle.batch.specs.Promises.{Batches};
 ghost use Rattle.drives.specs.Results as results;
 ghost use Rattle.exports.specs.Replies.{reply};
+ghost use Rattle.exports.specs.Promises.{ServesHere};
 use crate::Reply;
+use crate::Said;
 use crate::said_ordering;
 use crate::said_report;
 use crate::said_rounding;
@@ -147,4 +149,20 @@ pub extern "C" fn mandrozsi_pair_batch(
         i += 1;
     }
     here
+}
+
+// Serves a slot of the own drive on its record where that lies: it is moved on there, and left as it was where the slot is refused. A lent struct asks for a
+// walk by hand as well.
+#[no_mangle]
+pub extern "C" fn mandrozsi_pair_slot_here(
+    own: &mut Drive,
+    other: Drive,
+    board: &mut [u16],
+    list: &mut [u64],
+) -> Said
+    ensures { λ r. ⌜ ServesHere (now (own .entry)) other (now (board .entry)) (now (list .entry)) r (now (own .exit)) (now (board .exit)) (now (list .exit)) ⌝ }
+{
+    let served = mandrozsi_pair_slot(*own, other, board, list);
+    *own = served.drive;
+    served.said
 }

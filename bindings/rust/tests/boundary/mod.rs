@@ -97,6 +97,13 @@ impl Calls for Boundary {
             }
         })
     }
+    fn slot_here(&self, r: Records, board: &mut [u16], list: &mut [u64]) -> Answer {
+        let (board, entries, list, numbers) = (board.as_mut_ptr(), board.len(), list.as_mut_ptr(), list.len());
+        let mut own = drive(r.own);
+        let other = r.other.map_or(own, drive);
+        let said = unsafe { raw::mandrozsi_pair_slot_here(&mut own, other, board, entries, list, numbers) };
+        answer(Reply { drive: own, said })
+    }
     fn batch(&self, r: Records, board: &mut [u16], list: &mut [u64], table: &mut [Entry]) -> Record {
         let (board, entries, list, numbers) = (board.as_mut_ptr(), board.len(), list.as_mut_ptr(), list.len());
         let own = drive(r.own);

@@ -225,3 +225,17 @@ unsafe extern "C" fn mandrozsi_pair_batch(
     let lent = [Lent::changed(board, entries), Lent::changed(list, numbers), Lent::changed(table, changes)];
     ask(15, [own, other], 0, 0, lent).drive
 }
+#[no_mangle]
+unsafe extern "C" fn mandrozsi_pair_slot_here(
+    own: *mut Drive,
+    other: Drive,
+    board: *mut u16,
+    entries: usize,
+    list: *mut u64,
+    numbers: usize,
+) -> Said {
+    let lent = [Lent::changed(board, entries), Lent::changed(list, numbers), NONE];
+    let reply = ask(16, [*own, other], 0, 0, lent);
+    *own = reply.drive;
+    reply.said
+}
