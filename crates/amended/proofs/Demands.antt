@@ -1,5 +1,5 @@
--- The demands as request No. 2 amends them, each by its name. Demand 1, tickets and what becomes of an order hold for every call and every input; demand 3 for every
--- history of calls with the waiting list, refused or not, opens and reads among them, from any desk with a good board.
+-- The demands as request No. 2 amends them, each by its name. Demand 1, tickets and what becomes of an order hold for every call and every input; demand 3, and request
+-- No. 13, for every history of calls with the waiting list, refused or not, opens and reads among them, from any desk with a good board.
 -- Assumes nothing.
 use mathlib.Core.Path.{_≡_, refl, sym, subst, _∙_}
 use mathlib.Core.Bool.{true, false, cond}
@@ -17,6 +17,7 @@ use Rattle.demands.specs.Histories.{Act, State, after, log}
 use Rattle.demands.specs.Refusing.{otherChecks}
 use Rattle.demands.specs.Holdings.{Stream, heldFrom, heldOf, total}
 use Rattle.demands.specs.Rounds.{times, inARow, Near, bound, demanded}
+use Rattle.demands.specs.Stretches.{PowerOfTwo, PowerFair, StillFair}
 use Rattle.waiting.specs.declared.Order.{Order}
 use Rattle.waiting.specs.Layout.{lastTicket, placesIn, waiting}
 use Rattle.waiting.specs.Meaning.{InOrder}
@@ -28,6 +29,7 @@ use Rattle.amended.specs.Deeds.{Deed, Adds, Removes, Slots, Fetches, Des
 use Rattle.amended.specs.Fates.{Waits, toldOf, fateThrough}
 use Rattle.amended.specs.Holding.{onBoard, heldThrough, heldThen, Ready}
 use Rattle.amended.specs.Refusing.{ofBoard}
+use Rattle.amended.specs.Stretches.{Still}
 use Rattle.amended.proofs.Carrying.{add-says}
 use Rattle.amended.proofs.Projection.{ranState, add-made}
 use Rattle.amended.proofs.Keeping.{held-leaves, held-pieces, held-within, turn-others, turn-room, turn-carried, Serves, round-serves}
@@ -35,6 +37,7 @@ use Rattle.amended.proofs.Sounding.{Standing, standing, restart-ready}
 use Rattle.amended.proofs.Damaging.{undamaged}
 use Rattle.amended.proofs.Listing.{count-up, up-rising, in-order, followed, taken-follows, add-thirteen, remove-thirteen}
 use Rattle.amended.proofs.Rounding.{slot-served, ran-sound, slots-full, round-names, plain-round}
+use Rattle.amended.proofs.Stretches.{slots-still, kept, power, fair, power-then, fair-then}
 -- ---- Demand 1: what a call that is not done answers, and that it changes nothing but for what 10 and 13 say, and a change's 13 puts on the list
 
 pub use Rattle.amended.proofs.Answering.{demand-1-amended}
@@ -178,3 +181,32 @@ module _ (s : Desk) (ready : Ready s) (deeds : List Deed) where
     pub amended-demanded : (x w i t : ℕ) → heldOf x (heldThen held' desk') ≡ w → zero < w → i + t ≤ C
         → Near (C * times x (inARow i t (namesServed desk' (Slots ∷ rest)))) (w * t) (demanded C w)
     amended-demanded x w i t h some within = let f = amended-fair x w i t h some within in omega arith
+
+  -- ---- Request No. 13: calls in which nothing is changed, over any number of rounds
+
+  -- Where nothing waits any number of slots are such calls, and none of them is refused.
+  pub amended-slots : waiting (desk' .list) ≡ [] → (n : ℕ) → Still desk' (replicate n Slots) × (length (namesServed desk' (replicate n Slots)) ≡ n)
+  amended-slots none n = slots-still n held' desk' st none
+
+  module _ (rest : List Deed) (still : Still desk' rest) where
+    -- They leave the board as it was, so that a stream has the same pieces throughout: as many as its weight has ones (`amended-pieces`).
+    pub amended-kept : leavesAll desk' rest .state .board ≡ desk' .state .board
+    amended-kept = kept held' desk' st rest still
+
+    -- If C is a power of two: in any t successive slots of them, over as many rounds as you like, a stream of weight w and m pieces is served s times, and C s
+    -- and w t differ by less than m C.
+    pub amended-power : PowerOfTwo C → PowerFair C (desk' .state .board) held' (namesServed desk' rest)
+    amended-power = power held' desk' st rest still
+
+    -- For every C they differ by less than m C + w h: what demand 3 has of one round holds over any number of them.
+    pub amended-still : StillFair C held' (namesServed desk' rest)
+    amended-still = fair held' desk' st rest still
+
+  -- The same of slots the first of which carries out what waits: that comes before the slot is picked, and what is held is what is held then.
+  module _ (rest : List Deed) (still : Still (leaves Slots desk') rest) where
+    pub amended-power-then :
+        PowerOfTwo C → PowerFair C (boardThen (desk' .state .drive) (desk' .state .board) (desk' .list)) (heldThen held' desk') (namesServed desk' (Slots ∷ rest))
+    amended-power-then = power-then held' desk' st rest still
+
+    pub amended-still-then : StillFair C (heldThen held' desk') (namesServed desk' (Slots ∷ rest))
+    amended-still-then = fair-then held' desk' st rest still

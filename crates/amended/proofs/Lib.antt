@@ -4,6 +4,8 @@ mod Carrying
 mod Projection
 mod Sounding
 mod Rounding
+mod Stretching
+mod Stretches
 mod Answering
 mod Damaging
 mod Listing
@@ -12,6 +14,7 @@ mod Keeping
 mod Turning
 mod Sharing
 mod TurnRounds
+mod TurnStretches
 mod TurnAnswers
 mod TurnLists
 mod TurnPromised

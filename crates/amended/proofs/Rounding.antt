@@ -51,7 +51,7 @@ slots-full hs s is first =
 
 -- ---- a full round is a plain full round from where the list has run
 
-clear-served : (k : Check) (before : List Act) → k ≡ Clear → servedBy k before ≡ before ++ (Slot ∷ [])
+pub clear-served : (k : Check) (before : List Act) → k ≡ Clear → servedBy k before ≡ before ++ (Slot ∷ [])
 clear-served k before e = rw e refl
 
 module _ (hs : List Stream) (s : Desk) (is : Standing hs s) (rest : List Deed) where

@@ -1,5 +1,6 @@
--- Two histories of two drives, computed. C = 2: an order of the drive that is at the start of a round waits while the other is not there, a slot there does not run
--- it, and the other drive's slot that finds both there does. C = 3: drives that run out of step, where an order waits for ever.
+-- Histories of two drives, computed. C = 2: an order of the drive that is at the start of a round waits while the other is not there, a slot there does not run
+-- it, and the other drive's slot that finds both there does. C = 3: drives that run out of step, where an order waits for ever. C = 4: what they then
+-- serve.
 -- Assumes nothing.
 use mathlib.Core.Path.{_≡_, refl}
 use mathlib.Core.List.{List, [], _∷_, _++_}
@@ -12,7 +13,8 @@ use Rattle.pieces.specs.Tidying.{copy, move, twin, join, pair, step, tidy, clea
 use Rattle.calls.specs.Records.{driveAt, roundAfter}
 use Rattle.calls.specs.Refusals.{applies, openCheck, addCheck, removeCheck, slotCheck, positionCheck}
 use Rattle.calls.specs.Results.{idleBoard}
-use Rattle.demands.specs.Histories.{Add, Slot}
+use Rattle.demands.specs.Histories.{Add, Slot, log}
+use Rattle.demands.specs.Stretches.{noneDone}
 use Rattle.waiting.specs.Layout.{least, answersIn, ordersIn, orderAt, outcomeAt, ordersFrom, waiting, counted, full, putAt, joined, answeredAt, answeredFrom, settled, foundFrom, placeOf, found, lowered, without, emptied}
 use Rattle.waiting.specs.Carrying.{carriedAll, outcomes}
 use Rattle.orders.specs.Checks.{lentCheck, orderCheck}
@@ -22,8 +24,10 @@ use Rattle.drives.specs.Results.{boardThen, listThen}
 use Rattle.amended.specs.Histories.{through, along, Each}
 use Rattle.amended.specs.Carried.{actOf, actsOf}
 use Rattle.amended.specs.Deeds.{Opens, Adds, Slots, Fetches}
-use Rattle.amended.specs.Turns.{Pair, exchanged, Turn, Own, Other, answers, leaves, leavesAll, turnedAll, due, plain, FullRound}
+use Rattle.amended.specs.Turns.{Pair, exchanged, Turn, Own, Other, answers, leaves, leavesAll, turnedAll, restarts, due, plain, namesServed, FullRound}
+use Rattle.amended.specs.Stretches.{StillTurns}
 use Rattle.amended.proofs.Projecting.{through-append}
+use Rattle.amended.proofs.Stretching.{tested}
 
 -- what a call answers: the number, then the values
 abbrev said : Turn → Pair → List (List ℕ)
@@ -85,3 +89,21 @@ for-ever : (k m n : ℕ) → leavesAll (apart m n) (sixes k) .list ≡ late .lis
 unfolding sixes through
 for-ever zero m n = refl
 for-ever (suc k) m n = rw (through-append leaves (apart m n) six (sixes k), around m n) (for-ever k (roundAfter m) (roundAfter n))
+
+-- ---- C = 4: drives a slot apart, that never meet at the start of a round, so that the order waits and nothing is changed
+
+abbrev loaded : Pair
+loaded =
+    record { own = record { capacity = 4; position = 1; round = 0 }; other = record { capacity = 4; position = 2; round = 0 }; board = 1 ∷ replicate 3 0; list = replicate 259 0 }
+
+abbrev pairs : ℕ → List Turn
+pairs zero = []
+pairs (suc n) = Other Slots ∷ Own Slots ∷ pairs n
+
+-- Over two rounds of the own drive stream 1, of weight 1, is served twice in the five slots from slot 0 on: C s = 8 and w t = 5 are 3 apart, and one more would be m C.
+stretch :
+    StillTurns loaded (Own (Adds 2 1) ∷ pairs 8)
+    × (namesServed loaded (Own (Adds 2 1) ∷ pairs 8) ≡ 1 ∷ 0 ∷ 0 ∷ 0 ∷ 1 ∷ 0 ∷ 0 ∷ 0 ∷ [])
+    × (waiting (leavesAll loaded (Own (Adds 2 1) ∷ pairs 8) .list) ≡ addOrder 2 1 ∷ [])
+unfolding through along actOf actsOf due noneDone log openCheck addCheck removeCheck slotCheck positionCheck idleBoard uniform whole pieces weight nth single sound sum fill first fit spot put place copy move twin join pair step tidy clear digits leafAt nextFrom least answersIn ordersIn orderAt outcomeAt ordersFrom waiting counted full putAt joined answeredAt answeredFrom settled foundFrom placeOf found lowered without emptied carriedAll outcomes carried carriedAnswer carriedBoard ranBoard ranList lentCheck orderCheck applies sizeCheck placeCheck pairCheck bothStart wayOf boardThen listThen
+stretch = (record { whole = tested leaves restarts loaded (Own (Adds 2 1) ∷ pairs 8) refl; kept = refl }, refl, refl)

@@ -65,10 +65,10 @@ module _ (hs : List Stream) (s : Pair) (is : Standing hs s) where
 
 -- ---- C slots
 
-slots-whole : (n : ℕ) (s : Pair) → Unbroken s (replicate n (Own Slots))
+pub slots-whole : (n : ℕ) (s : Pair) → Unbroken s (replicate n (Own Slots))
 slots-whole = projecting.row-whole leaves (λ t u. restarts t u ≡ false) (Own Slots) (λ u. refl)
 
-slots-many : (n : ℕ) (hs : List Stream) (s : Pair) → Standing hs s → length (namesServed s (replicate n (Own Slots))) ≡ n
+pub slots-many : (n : ℕ) (hs : List Stream) (s : Pair) → Standing hs s → length (namesServed s (replicate n (Own Slots))) ≡ n
 slots-many = projecting.row-many leaves heldNext Standing standing-next nameServed (Own Slots) (λ gs u st. rw (slot-served gs u st) refl)
 
 pub slots-full : (hs : List Stream) (s : Pair) → Standing hs s → s .own .position ≡ 1 → FullRound s (replicate (s .own .capacity - 1) (Own Slots))
@@ -79,7 +79,7 @@ slots-full hs s is first =
 
 -- ---- a full round is a plain full round from where the list has run
 
-clear-stands : (s : Pair) (k : Check) → k ≡ Clear → actsOf (ifClear k (due s) []) ++ ifClear k (Slot ∷ []) [] ≡ actsOf (due s) ++ (Slot ∷ [])
+pub clear-stands : (s : Pair) (k : Check) → k ≡ Clear → actsOf (ifClear k (due s) []) ++ ifClear k (Slot ∷ []) [] ≡ actsOf (due s) ++ (Slot ∷ [])
 clear-stands s k e = rw e refl
 
 module _ (hs : List Stream) (s : Pair) (is : Standing hs s) (rest : List Turn) (full : FullRound s rest) where

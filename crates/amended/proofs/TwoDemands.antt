@@ -1,7 +1,7 @@
 -- The demands for two drives on one board, request No. 10, each by its name. Demand 1, tickets and what becomes of an order hold for every call and every input;
--- demand 3 for each of the two drives, after every history of calls of both, refused or not, opens and reads among them, each call given the last record of
--- both. What is proved of the own drive holds of the other, since what that one sees is a history too. Nothing says that two drives are ever at the start of
--- a round together.
+-- demand 3, and request No. 13, for each of the two drives, after every history of calls of both, refused or not, opens and reads among them, each call given
+-- the last record of both. What is proved of the own drive holds of the other, since what that one sees is a history too. Nothing says that two drives are
+-- ever at the start of a round together.
 -- Assumes nothing.
 use mathlib.Core.Path.{_≡_, refl}
 use mathlib.Core.Bool.{true, false, cond}
@@ -20,6 +20,7 @@ use Rattle.demands.specs.Histories.{Act, State, after, log}
 use Rattle.demands.specs.Refusing.{otherChecks}
 use Rattle.demands.specs.Holdings.{Stream, heldFrom, heldOf, total}
 use Rattle.demands.specs.Rounds.{names, times, inARow, Near, bound, demanded}
+use Rattle.demands.specs.Stretches.{PowerOfTwo, PowerFair, StillFair}
 use Rattle.waiting.specs.declared.Order.{Order}
 use Rattle.waiting.specs.Layout.{lastTicket, waiting}
 use Rattle.waiting.specs.Meaning.{InOrder}
@@ -34,11 +35,13 @@ use Rattle.amended.specs.Holding.{onBoard}
 use Rattle.amended.specs.Refusing.{ofBoard}
 use Rattle.amended.specs.Turns.{Pair, exchanged, Which, This, That, seenBy, seen, shown, wayAt, answersOwn, leavesOwn, Turn, Own, Other, answers, leaves, leavesAll, turned, turnedAll, restarts, Unbroken, plain, namesServed, FullRound, ticketsTold}
 use Rattle.amended.specs.Sharing.{heldThrough, heldThen, Ready, fateThrough}
+use Rattle.amended.specs.Stretches.{StillTurns}
 use Rattle.amended.proofs.Keeping.{held-leaves, held-pieces, held-within, turn-others, turn-room, turn-carried, Serves, round-serves}
 use Rattle.amended.proofs.Listing.{taken-follows}
 use Rattle.amended.proofs.Turning.{turned-leaves, other-stays, ranState, projected, names-same}
 use Rattle.amended.proofs.Sharing.{held-plain, held-turned, Standing, standing-turned, both-given, restart-standing, standing}
 use Rattle.amended.proofs.TurnRounds.{first-clear, slot-served, ran-sound, then-turned, slot-runs, slots-full, round-names, plain-round, round-ends}
+use Rattle.amended.proofs.TurnStretches.{slots-still, kept, power, fair, power-then, fair-then}
 use Rattle.amended.proofs.TurnAnswers.{undamaged}
 use Rattle.amended.proofs.TurnLists.{in-order, count-up, followed, add-thirteen, remove-thirteen}
 -- ---- Demand 1: what a call that is not done answers, and that it changes nothing but for what 10 and 13 say, and a change's 13 puts on the list
@@ -228,3 +231,32 @@ module _ (s : Pair) (ready : Ready s) (turns : List Turn) (f : Which) where
     pub two-demanded : (x w i t : ℕ) → heldOf x (heldThen held' pair') ≡ w → zero < w → i + t ≤ C
         → Near (C * times x (inARow i t (namesServed pair' (Own Slots ∷ rest)))) (w * t) (demanded C w)
     two-demanded x w i t h some within = let g = two-fair x w i t h some within in omega arith
+
+  -- ---- Request No. 13: calls of both drives in which nothing is changed, by neither of them, over any number of rounds of the drive
+
+  -- Where nothing waits any number of its slots are such calls, and none of them is refused.
+  pub two-slots : waiting (pair' .list) ≡ [] → (n : ℕ) → StillTurns pair' (replicate n (Own Slots)) × (length (namesServed pair' (replicate n (Own Slots))) ≡ n)
+  two-slots none n = slots-still n held' pair' st none
+
+  module _ (rest : List Turn) (still : StillTurns pair' rest) where
+    -- They leave the board as it was, so that a stream has the same pieces throughout: as many as its weight has ones (`two-pieces`).
+    pub two-kept : leavesAll pair' rest .board ≡ pair' .board
+    two-kept = kept held' pair' st rest still
+
+    -- If C is a power of two: in any t successive slots of the drive, over as many of its rounds as you like, a stream of weight w and m pieces is served s
+    -- times, and C s and w t differ by less than m C.
+    pub two-power : PowerOfTwo C → PowerFair C (pair' .board) held' (namesServed pair' rest)
+    two-power = power held' pair' st rest still
+
+    -- For every C they differ by less than m C + w h: what demand 3 has of one round holds over any number of them.
+    pub two-still : StillFair C held' (namesServed pair' rest)
+    two-still = fair held' pair' st rest still
+
+  -- The same of slots the first of which carries out what waits, if it does: that comes before the slot is picked, and what is held is what is held then.
+  module _ (rest : List Turn) (still : StillTurns (leaves (Own Slots) pair') rest) where
+    pub two-power-then :
+        PowerOfTwo C → PowerFair C (boardThen (pair' .own) (pair' .other) (pair' .board) (pair' .list)) (heldThen held' pair') (namesServed pair' (Own Slots ∷ rest))
+    two-power-then = power-then held' pair' st rest still
+
+    pub two-still-then : StillFair C (heldThen held' pair') (namesServed pair' (Own Slots ∷ rest))
+    two-still-then = fair-then held' pair' st rest still

@@ -7,3 +7,4 @@ pub mod Fates
 pub mod Turns
 pub mod Sharing
 pub mod Batches
+pub mod Stretches

@@ -26,15 +26,17 @@ use Rattle.calls.proofs.Laws.{clear-number, refusal, open-answers, add-answers,
 use Rattle.demands.specs.Histories.{Act, Add, Remove, Slot, Round, Report, State, Openable, does, says, opens, after, reach, log}
 use Rattle.demands.specs.Refusing.{mayAnswer, lent, writes, refusedValues, otherChecks}
 use Rattle.demands.specs.Holdings.{isChange, held, heldOf, total}
-use Rattle.demands.specs.Rounds.{namesFrom, FullRound, InTurn, inARow, times, namesOn, Near, bound, demanded}
+use Rattle.demands.specs.Rounds.{names, namesFrom, FullRound, InTurn, inARow, times, namesOn, Near, bound, demanded}
+use Rattle.demands.specs.Stretches.{Still, PowerOfTwo, PowerFair, StillFair}
 use Rattle.demands.specs.Certificates.{certificates, ofSlot, slotsIn, Every, ToldRound}
 use Rattle.demands.proofs.Checks.{clash}
 use Rattle.demands.proofs.Answering.{beside-says, zeros-say, done-idle}
 use Rattle.demands.proofs.Valid.{Valid, slot-clear, clear-valid}
 use Rattle.demands.proofs.Reached.{Sound, after-one, opened-clear, always}
-use Rattle.demands.proofs.Rows.{full-names, slots-full}
+use Rattle.demands.proofs.Rows.{full-names, slots-length, slots-full}
 use Rattle.demands.proofs.Numbering.{moves}
 use Rattle.demands.proofs.Told.{full-number, full-over, number-counted, certificate-at, one-slot, full-told, told-full}
+use Rattle.demands.proofs.Stretching.{slots-still, still-board, served-power, served-still}
 use Rattle.demands.proofs.Standing.{never-damaged, midround, others-pass, room, room-told, room-asked, served-round, served-fair}
 
 -- ---- Demand 1
@@ -274,3 +276,26 @@ module _ (C : ℕ) (B : List ℕ) (may : Openable C B) (acts : List Act) where
 
   pub told-round : (rest : List Act) → ToldRound (opens C B) acts rest → FullRound (reach C B acts) rest
   told-round rest = told-full C (may .some) small (opens C B) starts acts rest demand-3-slot
+
+  -- ---- Request No. 13, for the same histories: calls that follow, in which no change is done
+
+  -- Any number of slots are such calls, and none of them is refused.
+  pub still-slots : (n : ℕ) → Still (reach C B acts) (replicate n Slot) × (slotsIn (log (reach C B acts) (replicate n Slot)) ≡ n)
+  still-slots n = (slots-still (reach C B acts) n, slots-length (reach C B acts) n (r .valid))
+
+  module _ (rest : List Act) (still : Still (reach C B acts) rest) where
+    -- They leave the board as it was, so that a stream has the same pieces throughout: as many as its weight has ones (`demand-3-pieces`).
+    pub still-kept : after (reach C B acts) rest .board ≡ reach C B acts .board
+    still-kept = still-board (reach C B acts) rest still
+
+    -- If C is a power of two: in any t successive slots of them, over as many rounds as you like, a stream of weight w and m pieces is served s times, and C s
+    -- and w t differ by less than m C.
+    pub power-fair : PowerOfTwo C → PowerFair C (reach C B acts .board) (held C B acts) (names (log (reach C B acts) rest))
+    power-fair =
+        subst (λ (c : ℕ). PowerOfTwo c → PowerFair c (reach C B acts .board) (held C B acts) (names (log (reach C B acts) rest))) (capacity acts)
+        (served-power (reach C B acts) (held C B acts) r rest still)
+
+    -- For every C they differ by less than m C + w h: what demand 3 has of one round holds over any number of them.
+    pub still-fair : StillFair C (held C B acts) (names (log (reach C B acts) rest))
+    still-fair =
+        subst (λ (c : ℕ). StillFair c (held C B acts) (names (log (reach C B acts) rest))) (capacity acts) (served-still (reach C B acts) (held C B acts) r rest still)

@@ -1,28 +1,29 @@
--- One history, computed: what demand 3 speaks of happens, with these numbers. C = 11, on a longer slice. And two records given by hand, whose number is the
--- largest.
+-- Histories, computed: what demand 3 speaks of happens, with these numbers. C = 11, on a longer slice; two records given by hand, whose number is the largest;
+-- and C = 16 over several rounds.
 -- Assumes nothing.
 use mathlib.Core.Path.{_≡_, refl}
-use mathlib.Core.Bool.{Bool, true, _&&_}
+use mathlib.Core.Bool.{Bool, true, false, _&&_}
 use mathlib.Core.List.{List, [], _∷_, _++_, map}
 use Prim.Native.Nat.{ℕ, _+_, _*_}
 use native.Mathlib.Omega.{arith}
 use lib.Count.{ones, onesIn}
 use lib.Dec.{ltb}
-use lib.ListN.{replicate}
+use lib.ListN.{take, replicate}
 use Rattle.sequences.specs.Board.{leafAt, nextFrom}
 use Rattle.sequences.specs.Serving.{countList}
-use Rattle.pieces.specs.Board.{uniform, whole, pieces, weight, nth, single, sound, sum}
+use Rattle.pieces.specs.Board.{uniform, whole, pieces, number, weight, nth, single, sound, sum}
 use Rattle.pieces.specs.Placing.{fill, first, fit, spot, put, place}
 use Rattle.pieces.specs.Tidying.{copy, move, twin, join, pair, step, tidy, clear}
 use Rattle.calls.specs.Refusals.{openCheck, addCheck, removeCheck, slotCheck, reportCheck}
 use Rattle.calls.specs.Results.{idleBoard}
 use Rattle.demands.specs.Histories.{Act, Add, Remove, Slot, Report, State, Openable, opens, after, reach, log}
 use Rattle.demands.specs.Holdings.{without, heldFrom, held}
-use Rattle.demands.specs.Rounds.{names, namesFrom, FullRound, inARow, times, bound}
+use Rattle.demands.specs.Rounds.{names, namesFrom, FullRound, inARow, times, bound, powerBound}
 use Rattle.demands.specs.Certificates.{certificates}
+use Rattle.demands.specs.Stretches.{noneDone, Still}
 
 -- a and b differ by less than d, as a test
-abbrev near : ℕ → ℕ → ℕ → Bool
+abbrev pub near : ℕ → ℕ → ℕ → Bool
 near a b d = ltb a (b + d) && ltb b (a + d)
 
 abbrev board : List ℕ
@@ -83,3 +84,38 @@ wraps :
     ≡ record { round = 18446744073709551615; leaf = 1 } ∷ record { round = 0; leaf = 0 } ∷ record { round = 0; leaf = 1 } ∷ record { round = 1; leaf = 0 } ∷ [])
 unfolding log certificates slotCheck leafAt nextFrom
 wraps = (refl, refl)
+
+-- ---- C = 16, over three rounds and a half
+
+-- three streams on an opened board
+abbrev pub loaded : State
+loaded = reach 16 (replicate 16 9) (Add 1 1 ∷ Add 2 6 ∷ Add 3 3 ∷ [])
+
+-- 56 slots; between them changes that are refused, at the start of a round (taken, no room, absent) and within one
+abbrev pub long : List Act
+long = replicate 16 Slot ++ (Add 1 1 ∷ Add 4 7 ∷ Remove 5 ∷ []) ++ replicate 20 Slot ++ (Remove 1 ∷ Report 3 ∷ []) ++ replicate 20 Slot
+
+abbrev pub round : List ℕ
+round = 1 ∷ 3 ∷ 2 ∷ 0 ∷ 2 ∷ 0 ∷ 2 ∷ 0 ∷ 3 ∷ 3 ∷ 2 ∷ 0 ∷ 2 ∷ 0 ∷ 2 ∷ 0 ∷ []
+
+-- what they serve
+abbrev pub rounds : List ℕ
+rounds = round ++ round ++ round ++ take 8 round
+
+-- No change of them is done. Stream 3, of weight 3, has two pieces; from slot 8 on it is served 8 times in 34 slots, and from slot 10 on 7 times in 46, so that
+-- C s = 128 and w t = 102, and then 112 and 138, are 26 apart: less than m C = 32, and more than C. Stream 1, of one piece, is served twice in the 47 slots from
+-- slot 1 on: 32 and 47 are 15 apart, and one more would be m C.
+pub stretch :
+    Still loaded long
+    × (number 16 (loaded .board) 3 ≡ 2)
+    × (names (log loaded long) ≡ rounds)
+    × (times 3 (inARow 8 34 rounds) ≡ 8)
+    × (times 3 (inARow 10 46 rounds) ≡ 7)
+    × (times 1 (inARow 1 47 rounds) ≡ 2)
+    × (near (16 * 8) (3 * 34) (powerBound 16 2) ≡ true)
+    × (near (16 * 7) (3 * 46) (powerBound 16 2) ≡ true)
+    × (near (16 * 2) (1 * 47) (powerBound 16 1) ≡ true)
+    × (near (16 * 8) (3 * 34) 16 ≡ false)
+    × (near (16 * 7) (3 * 46) 16 ≡ false)
+unfolding log after names noneDone openCheck addCheck removeCheck slotCheck reportCheck idleBoard uniform whole pieces weight nth single sound sum fill first fit spot put place copy move twin join pair step tidy clear leafAt nextFrom countList
+stretch = (refl, refl, refl, refl, refl, refl, refl, refl, refl, refl, refl)

@@ -9,6 +9,8 @@ mod Rows
 mod Numbering
 mod Told
 mod Standing
+mod Powers
+mod Stretching
 mod Promised
 pub mod Demands
 pub mod Laws

@@ -39,7 +39,7 @@ names-append s (Round O ∷ acts) more = names-append s acts more
 names-append s (Report x ∷ acts) more = names-append s acts more
 
 -- a slot serves the name on its leaf, and the record moves on
-slot-names : (s : State) (acts : List Act) → Valid s
+pub slot-names : (s : State) (acts : List Act) → Valid s
     → namesFrom s acts ≡ servedName (s .drive) (s .board) ∷ names (log (stateAt (movedOn (s .drive)) (s .board)) acts)
 unfolding names log
 slot-names s acts is = rw (slot-clear s is) refl
@@ -88,7 +88,7 @@ full-names s rest is full =
     ∙ ap (λ (p : ℕ). namesOn (s .board) (leavesFrom (s .drive .capacity) p (s .drive .capacity))) (full .first)
 
 -- n slots serve n names
-slots-length : (s : State) (n : ℕ) → Valid s → length (names (log s (replicate n Slot))) ≡ n
+pub slots-length : (s : State) (n : ℕ) → Valid s → length (names (log s (replicate n Slot))) ≡ n
 unfolding names log
 slots-length s zero is = refl
 slots-length s (suc n) is = rw (slot-names s (replicate n Slot) is, slots-length (stateAt (movedOn (s .drive)) (s .board)) n (valid-next s is)) refl

@@ -97,6 +97,12 @@ module _ (s : State) (hs : List Stream) (is : Sound s hs) where
       let others = others-pass x n start (may .named) (λ z. omega arith) (sym (is .names x (may .named)) ∙ may .absent) in
       room x n others ∙ rw (le-ltb n n (le-refl n)) refl
 
+  -- what holds something has as many leaves
+  pub held-weight : (x w : ℕ) → heldOf x hs ≡ w → zero < w → weight (s .drive .capacity) (s .board) x ≡ w
+  held-weight x w holds some =
+      let named : x ≡ 0 → ⊥ = λ e. let z : heldOf x hs ≡ 0 = ap (λ (y : ℕ). heldOf y hs) e ∙ is .nameless in omega arith in
+      is .names x named ∙ holds
+
   module _ (rest : List Act) (full : FullRound s rest) where
     -- a full round serves a name as often as it holds
     pub served-round : (x : ℕ) → (x ≡ 0 → ⊥) → times x (namesFrom s rest) ≡ heldOf x hs
@@ -108,7 +114,6 @@ module _ (s : State) (hs : List Stream) (is : Sound s hs) where
     pub served-fair : (x w i t : ℕ) → heldOf x hs ≡ w → zero < w → i + t ≤ s .drive .capacity
         → Near (s .drive .capacity * times x (inARow i t (namesFrom s rest))) (w * t) (bound (s .drive .capacity) w)
     served-fair x w i t holds some within =
-        let named : x ≡ 0 → ⊥ = λ e. let z : heldOf x hs ≡ 0 = ap (λ (y : ℕ). heldOf y hs) e ∙ is .nameless in omega arith in
-        let e : weight C B x ≡ w = is .names x named ∙ holds in
+        let e = held-weight x w holds some in
         let f = rw e at (stream-fair C B x (is .valid .at .some) (is .valid .at .few) i t within (is .fine) (omega arith)) in
         rw (full-names s rest (is .valid) full, row C 1 C i t B within, times-on B x (leavesFrom C (afterSlots C 1 i) t)) (omega arith)

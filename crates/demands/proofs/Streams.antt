@@ -3,7 +3,7 @@
 use mathlib.Core.Path.{_≡_, refl, ap, _∙_}
 use mathlib.Core.Bool.{Bool, true, false, _&&_, and-true, and-false}
 use mathlib.Core.List.{List, [], _∷_}
-use Prim.Native.Nat.{ℕ, zero, suc, _+_, _-_, _*_, _^_, _≤_, _<_}
+use Prim.Native.Nat.{ℕ, zero, suc, _+_, _-_, _*_, _%_, _^_, _≤_, _<_}
 use native.Mathlib.Nat.{two-pow-succ}
 use native.Mathlib.Omega.{arith}
 use native.Mathlib.Decide.{decLt, ℕ-discrete}
@@ -12,13 +12,13 @@ use lib.Dec.{eqb}
 use lib.ListN.{getD}
 use lib.Pow.{pow-pos}
 use borrow.Author.Tests.{eq-eqb, ne-eqb, le-leb, lt-leb, lt-ltb, le-ltb}
-use Rattle.sequences.specs.Board.{digits}
+use Rattle.sequences.specs.Board.{digits, Position}
 use Rattle.sequences.specs.Serving.{one, inRun, leavesFrom, afterSlots, countList}
 use Rattle.sequences.proofs.Laws.{first-position, after-slots-valid, combine}
 use Rattle.pieces.specs.Board.{good, weight, number}
 use Rattle.pieces.proofs.Laws.{over-pieces, pieces-ones}
 use Rattle.calls.proofs.Laws.{leaves-times}
-use Rattle.demands.proofs.Windows.{Window, round-window, leaves-within}
+use Rattle.demands.proofs.Windows.{round-window, leaves-within}
 
 -- leaf i holds x
 abbrev pub holds : List ℕ → ℕ → ℕ → Bool
@@ -92,52 +92,60 @@ has-pieces C B x few held =
     let most = over-pieces C B x (λ a l. 0) 0 1 C (λ a l. refl) (λ a h. refl) (λ a l multiple fits all. omega arith) few in
     some-piece (number C B x) (weight C B x) C held (omega arith)
 
+-- ---- n slots in a row from p, where each run of 2 ^ l leaves is served 2 ^ l * T / K times, up to less than one
+
+module _ (C : ℕ) (B : List ℕ) (x p n : ℕ) (at : Position C p) (K T : ℕ) (some : zero < K)
+    (runs : (a l : ℕ) → a % 2 ^ l ≡ 0 → a + 2 ^ l ≤ C
+    → (K * countList (inRun a l) (leavesFrom C p n) < 2 ^ l * T + K) × (2 ^ l * T < K * countList (inRun a l) (leavesFrom C p n) + K)) where
+  abbrev L : List ℕ
+  L = leavesFrom C p n
+
+  same : (f g : ℕ → Bool) → ((y : ℕ) → y < C → f y ≡ g y) → countList f L ≡ countList g L
+  same f g h = leaves-within C p n f g at h
+
+  -- the sum over the pieces of x, each a run
+  near-blocks : (K * countList (holdsIn B x 0 12) L ≤ weight C B x * T + number C B x * (K - 1)) × (weight C B x * T ≤ K * countList (holdsIn B x 0 12) L + number C B x * (K - 1))
+  near-blocks =
+      over-pieces C B x (λ a l. countList (holdsIn B x a l) L) K T (K - 1)
+      (λ a l. count-split (holdsIn B x a (suc l)) (holdsIn B x a l) (holdsIn B x (a + 2 ^ l) l) L (λ y. run-halves a l y (holds B x y)))
+      (λ a h. same (holdsIn B x a 0) (λ (y : ℕ). false) (λ y q. run-leaf a y (holds B x y) (λ e. ne-eqb (getD B y 0) x (λ g. h (rw (← e) q) (rw (← e) g)))) ∙ count-none L)
+      (λ a l multiple fits all.
+      let e : countList (holdsIn B x a l) L ≡ countList (inRun a l) L = same (holdsIn B x a l) (inRun a l) (λ y q. run-all a l y (holds B x y) (λ g h. eq-eqb (getD B y 0) x (all y g h))) in
+      let r = runs a l multiple fits in
+      rw e (omega arith))
+      (let f = at .few in omega arith)
+
+  near : (K * countList (holds B x) L ≤ weight C B x * T + number C B x * (K - 1)) × (weight C B x * T ≤ K * countList (holds B x) L + number C B x * (K - 1))
+  near =
+      let f = at .few in
+      let all : countList (holdsIn B x 0 12) L ≡ countList (holds B x) L = same (holdsIn B x 0 12) (holds B x) (λ y q. rw (le-leb 0 y (omega arith), lt-ltb y 4096 (omega arith)) refl) in
+      rw all at near-blocks
+
+  -- a name is served w * T / K times, up to less than one for each of its pieces
+  pub stream-near : zero < weight C B x
+      → (K * countList (holds B x) (leavesFrom C p n) < weight C B x * T + number C B x * K) × (weight C B x * T < K * countList (holds B x) (leavesFrom C p n) + number C B x * K)
+  stream-near held =
+      let m = number C B x in
+      let r = near in
+      let k : K ≡ K - 1 + 1 = omega arith in
+      let d : m * K ≡ m * (K - 1 + 1) = ap (λ (y : ℕ). m * y) k in
+      let one-piece : zero < m = has-pieces C B x (let f = at .few in omega arith) held in
+      omega arith
+
+-- ---- rounds
+
 module _ (C : ℕ) (B : List ℕ) (x : ℕ) (some : zero < C) (few : C < 4096) where
-  -- ---- n slots in a row of a round, from slot i on
-  module _ (i n : ℕ) (within : i + n ≤ C) where
-    abbrev L : List ℕ
-    L = leavesFrom C (afterSlots C 1 i) n
-
-    abbrev w : Window C n L
-    w = round-window C some few i n within
-
-    same : (f g : ℕ → Bool) → ((y : ℕ) → y < C → f y ≡ g y) → countList f L ≡ countList g L
-    same f g h = leaves-within C (afterSlots C 1 i) n f g (after-slots-valid C 1 i (first-position C some few)) h
-
-    -- the sum over its pieces, each a run
-    near-blocks : (2 ^ digits C * countList (holdsIn B x 0 12) L ≤ weight C B x * w .over + number C B x * (2 ^ digits C - 1))
-        × (weight C B x * w .over ≤ 2 ^ digits C * countList (holdsIn B x 0 12) L + number C B x * (2 ^ digits C - 1))
-    near-blocks =
-        over-pieces C B x (λ a l. countList (holdsIn B x a l) L) (2 ^ digits C) (w .over) (2 ^ digits C - 1)
-        (λ a l. count-split (holdsIn B x a (suc l)) (holdsIn B x a l) (holdsIn B x (a + 2 ^ l) l) L (λ y. run-halves a l y (holds B x y)))
-        (λ a h. same (holdsIn B x a 0) (λ (y : ℕ). false) (λ y q. run-leaf a y (holds B x y) (λ e. ne-eqb (getD B y 0) x (λ g. h (rw (← e) q) (rw (← e) g)))) ∙ count-none L)
-        (λ a l multiple fits all.
-        let e : countList (holdsIn B x a l) L ≡ countList (inRun a l) L = same (holdsIn B x a l) (inRun a l) (λ y q. run-all a l y (holds B x y) (λ g h. eq-eqb (getD B y 0) x (all y g h))) in
-        let r = w .runs a l multiple fits in
-        let z = pow-pos (digits C) in
-        rw e (omega arith))
-        (omega arith)
-
-    near : (2 ^ digits C * countList (holds B x) L ≤ weight C B x * w .over + number C B x * (2 ^ digits C - 1))
-        × (weight C B x * w .over ≤ 2 ^ digits C * countList (holds B x) L + number C B x * (2 ^ digits C - 1))
-    near =
-        let all : countList (holdsIn B x 0 12) L ≡ countList (holds B x) L = same (holdsIn B x 0 12) (holds B x) (λ y q. rw (le-leb 0 y (omega arith), lt-ltb y 4096 (omega arith)) refl) in
-        rw all at near-blocks
-
-    -- C * s is w * n up to less than m * C + w * h, for the weight w, its ones m and the ones h of C
-    pub stream-fair : good C B ≡ true → zero < weight C B x
-        → (C * countList (holds B x) (leavesFrom C (afterSlots C 1 i) n) < weight C B x * n + (ones (weight C B x) * C + weight C B x * ones C))
-        × (weight C B x * n < C * countList (holds B x) (leavesFrom C (afterSlots C 1 i) n) + (ones (weight C B x) * C + weight C B x * ones C))
-    stream-fair fine held =
-        let K = 2 ^ digits C in
-        let m = number C B x in
-        let r = near in
-        let z = pow-pos (digits C) in
-        let k : K ≡ K - 1 + 1 = omega arith in
-        let d : m * K ≡ m * (K - 1 + 1) = ap (λ (y : ℕ). m * y) k in
-        let one-piece : zero < m = has-pieces C B x (omega arith) held in
-        let t = w .slots in
-        rw (← pieces-ones C B x (omega arith) fine) (combine K C (w .over) (countList (holds B x) L) (weight C B x) m n (ones C) some (omega arith) (omega arith) (t .0) (t .1))
+  -- in n slots in a row of a round, from slot i on, C * s is w * n up to less than m * C + w * h, for the weight w, its ones m and the ones h of C
+  pub stream-fair : (i n : ℕ) → i + n ≤ C → good C B ≡ true → zero < weight C B x
+      → (C * countList (holds B x) (leavesFrom C (afterSlots C 1 i) n) < weight C B x * n + (ones (weight C B x) * C + weight C B x * ones C))
+      × (weight C B x * n < C * countList (holds B x) (leavesFrom C (afterSlots C 1 i) n) + (ones (weight C B x) * C + weight C B x * ones C))
+  stream-fair i n within fine held =
+      let p = afterSlots C 1 i in
+      let K = 2 ^ digits C in
+      let w = round-window C some few i n within in
+      let r = stream-near C B x p n (after-slots-valid C 1 i (first-position C some few)) K (w .over) (pow-pos (digits C)) (w .runs) held in
+      let t = w .slots in
+      rw (← pieces-ones C B x (omega arith) fine) (combine K C (w .over) (countList (holds B x) (leavesFrom C p n)) (weight C B x) (number C B x) n (ones C) some (r .0) (r .1) (t .0) (t .1))
 
   -- in a whole round a name is served as often as it has leaves
   pub stream-round : countList (holds B x) (leavesFrom C 1 C) ≡ weight C B x

@@ -1,14 +1,17 @@
 -- Slots in a row of a round, told by the leaves that they serve: how many leaves of a run are among them, and how many slots they are.
 -- Assumes nothing.
-use mathlib.Core.Path.{_≡_, refl, ap}
+use mathlib.Core.Path.{_≡_, refl, sym, ap, _∙_}
 use mathlib.Core.Bool.{Bool}
-use mathlib.Core.List.{List}
+use mathlib.Core.List.{List, _∷_}
 use Prim.Native.Nat.{ℕ, zero, suc, _+_, _*_, _%_, _^_, _≤_, _<_}
 use native.Mathlib.Omega.{arith}
+use native.Mathlib.Decide.{decLe}
 use lib.Count.{ones}
-use Rattle.sequences.specs.Board.{digits, leafAt, servedFrom, nextFrom, Position}
+use lib.ListN.{drop}
+use borrow.Author.Tests.{lt-ltb, eqb-true}
+use Rattle.sequences.specs.Board.{digits, bit, column, leafAt, servedFrom, nextFrom, after, Position}
 use Rattle.sequences.specs.Serving.{inRun, left, leavesFrom, afterSlots, countList}
-use Rattle.sequences.proofs.Laws.{first-position, next-position, leaf-below, after-slots-valid, left-first, left-after, walk, run-window, slots-spread}
+use Rattle.sequences.proofs.Laws.{first-position, next-position, leaf-below, after-slots-valid, left-first, left-after, passed-one, served-serves, after-more-slots, walk, run-window, slots-spread}
 
 -- The leaves L of n slots in a row go over some positions. Of these a run of 2 ^ l leaves has its share, up to less than one leaf, and the board its share, up to
 -- less than the ones of C.
@@ -57,3 +60,35 @@ unfolding leavesFrom countList
 leaves-within C p zero f g at h = refl
 leaves-within C p (suc n) f g at h =
     rw (h (leafAt C (servedFrom C p)) (leaf-below C p at), leaves-within C (nextFrom C p) n f g (next-position C p at) h)
+
+-- ---- slots from any position serve what slots of a round serve
+
+-- from a term that is passed over, what they serve from the next one
+clear-leaves : (C p : ℕ) → Position C p → servedFrom C p ≡ suc p → (n : ℕ) → leavesFrom C (suc p) n ≡ leavesFrom C p n
+unfolding leavesFrom servedFrom nextFrom
+clear-leaves C p at e zero = refl
+clear-leaves C p at e (suc n) =
+    let b = eqb-true (bit C (column C (suc p))) 1 (rw e at (served-serves C p at)) in
+    let same : servedFrom C (suc p) ≡ servedFrom C p = omega arith in
+    ap (λ (q : ℕ). leafAt C q ∷ leavesFrom C (after (digits C) q) n) same
+
+-- from the term after one that serves, the others
+set-leaves : (C p q : ℕ) → suc p < 2 ^ digits C → servedFrom C p ≡ p → ((n : ℕ) → leavesFrom C p n ≡ leavesFrom C q n) → (n : ℕ) → leavesFrom C (suc p) n ≡ leavesFrom C (nextFrom C q) n
+unfolding leavesFrom nextFrom
+set-leaves C p q l e same n =
+    let next : nextFrom C p ≡ suc p = rw (e, lt-ltb (suc p) (2 ^ digits C) l) refl in
+    ap (λ (r : ℕ). leavesFrom C r n) (sym next) ∙ ap (λ (L : List ℕ). drop 1 L) (same (suc n))
+
+pub of-round : (C p : ℕ) → Position C p → (i : ℕ) × ((n : ℕ) → leavesFrom C p n ≡ leavesFrom C (afterSlots C 1 i) n)
+unfolding afterSlots servedFrom
+of-round C zero at = let f = at .first in absurd (omega arith)
+of-round C (suc zero) at = (0, λ n. refl)
+of-round C (suc (suc p)) at = go (of-round C (suc p) here) (decLe (servedFrom C (suc p)) (suc p))
+  where
+    here : Position C (suc p)
+    here = record { some = at .some; few = at .few; first = omega arith; last = let l = at .last in omega arith }
+
+    go : (i : ℕ) × ((n : ℕ) → leavesFrom C (suc p) n ≡ leavesFrom C (afterSlots C 1 i) n) → Dec (servedFrom C (suc p) ≤ suc p)
+        → (i : ℕ) × ((n : ℕ) → leavesFrom C (suc (suc p)) n ≡ leavesFrom C (afterSlots C 1 i) n)
+    go (i, same) (yes h) = (suc i, λ n. rw (after-more-slots C 1 i) (set-leaves C (suc p) (afterSlots C 1 i) (at .last) (omega arith) same n))
+    go (i, same) (no h) = (i, λ n. clear-leaves C (suc p) here (let o = passed-one C (suc p) here in omega arith) n ∙ same n)

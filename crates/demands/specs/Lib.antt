@@ -3,3 +3,4 @@ pub mod Refusing
 pub mod Holdings
 pub mod Rounds
 pub mod Certificates
+pub mod Stretches

@@ -78,3 +78,7 @@ bound C w = ones w * C + w * ones C
 -- 2 m C + w h, which is what demand 3 asks.
 abbrev pub demanded : ℕ → ℕ → ℕ
 demanded C w = 2 * ones w * C + w * ones C
+
+-- m C, for a stream of m pieces, which request No. 13 asks where C is a power of two.
+abbrev pub powerBound : ℕ → ℕ → ℕ
+powerBound C m = m * C
