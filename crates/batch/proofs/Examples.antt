@@ -1,7 +1,7 @@
 -- Tables, computed: what stands in the places for the answers, and what is left of the board and of the list. Every place holds an old answer before the call.
 -- Assumes nothing.
 use mathlib.Core.Path.{_≡_, refl}
-use mathlib.Core.List.{List, [], _∷_, _++_, map}
+use mathlib.Core.List.{List, [], _∷_, map}
 use Prim.Native.Nat.{ℕ, zero, suc}
 use lib.ListN.{replicate, take}
 use Rattle.sequences.specs.Board.{digits}

@@ -3,7 +3,6 @@
 -- may be carried out in parts.
 -- Assumes nothing.
 use mathlib.Core.Path.{_≡_, refl, sym, ap, subst, _∙_}
-use mathlib.Core.Bool.{true, false}
 use mathlib.Core.List.{List, [], _∷_, _++_, map}
 use Prim.Native.Nat.{ℕ}
 use lib.Dec.{eqb}
@@ -27,7 +26,7 @@ use Rattle.drives.specs.Promises.{Orders}
 use Rattle.drives.proofs.Laws.{change-refused, change-one-is-two}
 use Rattle.batch.specs.declared.Entry.{Entry}
 use Rattle.batch.specs.declared.Carried.{Carried}
-use Rattle.batch.specs.Entries.{question, answering, noted, ordered, orderedBoard, orderedList, carried, Left, before, batchOf}
+use Rattle.batch.specs.Entries.{question, answering, noted, ordered, orderedBoard, orderedList, carried, before, batchOf}
 use Rattle.batch.specs.Promises.{Carries, Batches}
 use Rattle.batch.specs.Singles.{Promise, Singles, ends, adds, removes, skips, notedAll}
 
