@@ -1,4 +1,4 @@
-/* Opens a board, admits two streams, serves a round slot by slot while a change waits, fetches its answer, saves the board and reads it back.
+/* Opens a board, admits two streams, serves a round slot by slot while a change waits, and again by the tree walk, fetches the answer, saves the board and reads it back.
  * It prints what it does, and ends with status 1 at the first answer that is not the one expected. */
 #include <inttypes.h>
 #include <stdio.h>
@@ -69,7 +69,22 @@ int main(void)
     if (r.said.number != MANDROZSI_DONE || memcmp(names, expected, sizeof names) != 0)
         return wrong("round", r);
 
-    mandrozsi_said said = mandrozsi_fetch(list, MANDROZSI_LIST, ticket);
+    uint16_t marks[7] = {0};
+    mandrozsi_said said;
+    for (size_t i = 0; i < 16; i++) {
+        said = mandrozsi_walk(8, board, 8, marks, 7);
+        if (said.number != MANDROZSI_DONE || said.first != expected[i % 8])
+            return wrong("walk", (mandrozsi_reply){drive, said});
+    }
+    for (size_t i = 0; i < 7; i++)
+        if (marks[i] != 0)
+            return wrong("a mark after two rounds of walks", (mandrozsi_reply){drive, said});
+    said = mandrozsi_walk(7, board, 8, marks, 7);
+    if (said.number != MANDROZSI_POWER)
+        return wrong("walk of a capacity that is no power of two", (mandrozsi_reply){drive, said});
+    printf("two rounds by the tree walk: the same\n");
+
+    said = mandrozsi_fetch(list, MANDROZSI_LIST, ticket);
     if (said.number != MANDROZSI_WAITING || said.first != ticket)
         return wrong("fetch before the round starts", (mandrozsi_reply){drive, said});
     r = mandrozsi_slot(drive, board, 8, list, MANDROZSI_LIST);

@@ -70,7 +70,7 @@ typedef struct mandrozsi_entry {
 enum mandrozsi_number {
     MANDROZSI_DONE = 0,
     MANDROZSI_CAPACITY = 1,  /* C is 0 or above 4,095 */
-    MANDROZSI_SHORT = 2,     /* the board has fewer than C entries, or the list fewer than MANDROZSI_LIST numbers */
+    MANDROZSI_SHORT = 2,     /* the board has fewer than C entries, or the list fewer than MANDROZSI_LIST numbers; or there are under C - 1 marks */
     MANDROZSI_POSITION = 3,  /* p is 0 or above 2^k - 1; of two drives also: their capacities differ */
     MANDROZSI_MIDROUND = 4,  /* p is not 1 (save), of two drives that of either */
     MANDROZSI_DAMAGED = 5,   /* the board is not good: two pieces of one name, or two idle ones, have equal size */
@@ -83,7 +83,8 @@ enum mandrozsi_number {
     MANDROZSI_BLOCK = 12,    /* a sheet breaks its layout */
     MANDROZSI_WAITING = 13,  /* the order waits under a ticket */
     MANDROZSI_QUEUE = 14,    /* no order can wait: the 64 places are taken, or the tickets are used up */
-    MANDROZSI_TICKET = 15    /* no order and no answer on the list has the ticket */
+    MANDROZSI_TICKET = 15,   /* no order and no answer on the list has the ticket */
+    MANDROZSI_POWER = 16     /* C is no power of two (walk) */
 };
 
 /* Makes the first `capacity` entries idle and empties the list, answers too; tickets count on. Done: a record at p = 1, of round 0.
@@ -177,6 +178,14 @@ static inline mandrozsi_said mandrozsi_slot_here(mandrozsi_drive *drive, uint16_
 {
     return mandrozsi_pair_slot_here(drive, *drive, board, entries, list, numbers);
 }
+
+/* Serves a slot by a second engine, for C a power of two: a walk down a tree over the leaves, from the root. At every inner node a mark of 0 becomes
+ * 1 and leads left, any other becomes 0 and leads right. `marks` has one mark for each of the C - 1 inner nodes, by level, root first: those of node
+ * i's left and right child stand at 2 i + 1 and 2 i + 2. The caller keeps the marks and lends each walk what the last one left; what is beyond the
+ * C - 1 is never changed. From marks that are all 0 the walks serve the leaves of mandrozsi_slot from p = 1, for any number of rounds, and after
+ * each C walks all are 0 again. There is no record and no list, and the board is only read, good or not. Done: first = the name, second = the leaf.
+ * Refused, looked for in this order: 1, 16, 2. */
+mandrozsi_said mandrozsi_walk(uint16_t capacity, const uint16_t *board, size_t entries, uint16_t *marks, size_t length);
 
 #ifdef __cplusplus
 }

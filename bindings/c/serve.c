@@ -1,7 +1,7 @@
 /* Makes the library's calls for another process: for the comparison from Rust (bindings/rust/tests/boundary/served.rs) on a machine whose
  * Rust cannot link the archive. It reads calls on standard input until it ends, and answers each on standard output:
  *
- *   a call    struct call below, then the bytes of the board, of the list, and of the output or sheet
+ *   a call    struct call below, then the bytes of the board, of the list, and of the output, sheet or marks
  *   an answer mandrozsi_reply, then the same bytes as the call left them
  *
  * Numbers lie as in memory, so both ends must keep the low byte first. Every slice is lent where it ends against a page that cannot be
@@ -20,6 +20,7 @@ enum { ROOM = 65536, MARKED = 64, MARK = 0xA5 };
 
 enum { OPEN, ADD, REMOVE, SLOT, ROUND, REPORT, SAVE, READ, FETCH };
 enum { PAIR_ADD = 9, PAIR_REMOVE, PAIR_SLOT, PAIR_ROUND, PAIR_REPORT, PAIR_SAVE, PAIR_BATCH, PAIR_SLOT_HERE };
+enum { WALK = 17 };
 
 /* What is called, with what; the bytes of the three slices, 0 where the call has none; and the record, or the ticket in place of its round, and that
  * of the other drive. */
@@ -93,6 +94,7 @@ static mandrozsi_reply make(const struct call *c, uint16_t *board, uint64_t *lis
     case PAIR_SLOT_HERE:
         said = mandrozsi_pair_slot_here(&drive, partner, board, entries, list, numbers);
         return (mandrozsi_reply){drive, said};
+    case WALK: return (mandrozsi_reply){{0, 0, 0}, mandrozsi_walk(c->capacity, board, entries, names, length / sizeof *names)};
     }
     end("there is no such call");
 }

@@ -29,9 +29,11 @@ use std::fmt;
 mod batch;
 mod pair;
 pub mod raw;
+mod tree;
 
 pub use batch::Entry;
 pub use pair::{Pair, Side};
+pub use tree::{walk, Walked};
 
 use raw::{Reply, Said};
 
@@ -50,7 +52,7 @@ pub struct Drive {
 pub enum Refusal {
     /// C is 0 or above 4,095.
     Capacity,
-    /// The board has fewer than C entries, or the list fewer than [`LIST`] numbers.
+    /// The board has fewer than C entries, or the list fewer than [`LIST`] numbers; or a walk is lent fewer than C - 1 marks.
     Short,
     /// p is 0 or above 2^k - 1; of two drives also: their capacities differ.
     Position,
@@ -76,11 +78,13 @@ pub enum Refusal {
     Queue,
     /// No order and no answer on the list has the ticket.
     Ticket,
+    /// C is no power of two, which a walk needs.
+    Power,
 }
 
 impl Refusal {
     /// Every refusal, in the order of the numbers; `Room` on a full board.
-    pub const ALL: [Refusal; 14] = [
+    pub const ALL: [Refusal; 15] = [
         Refusal::Capacity,
         Refusal::Short,
         Refusal::Position,
@@ -95,9 +99,10 @@ impl Refusal {
         Refusal::Block,
         Refusal::Queue,
         Refusal::Ticket,
+        Refusal::Power,
     ];
 
-    /// The number: 1 to 12, 14 and 15. (13 is WAITING, which is no refusal here.)
+    /// The number: 1 to 12, 14 to 16. (13 is WAITING, which is no refusal here.)
     pub const fn number(self) -> u16 {
         match self {
             Refusal::Capacity => 1,
@@ -114,6 +119,7 @@ impl Refusal {
             Refusal::Block => 12,
             Refusal::Queue => 14,
             Refusal::Ticket => 15,
+            Refusal::Power => 16,
         }
     }
 
@@ -138,7 +144,7 @@ impl fmt::Display for Refusal {
     fn fmt(&self, f: &mut fmt::Formatter<'_>) -> fmt::Result {
         match self {
             Refusal::Capacity => write!(f, "the capacity is 0 or above 4,095"),
-            Refusal::Short => write!(f, "the board has fewer entries than the capacity, or the list is too short"),
+            Refusal::Short => write!(f, "the board has fewer entries than the capacity, or the list or the marks are too few"),
             Refusal::Position => write!(f, "the position is out of range"),
             Refusal::Midround => write!(f, "not at the start of a round"),
             Refusal::Damaged => write!(f, "the board is not good"),
@@ -151,6 +157,7 @@ impl fmt::Display for Refusal {
             Refusal::Block => write!(f, "the sheet breaks its layout"),
             Refusal::Queue => write!(f, "no order can wait"),
             Refusal::Ticket => write!(f, "there is no such ticket"),
+            Refusal::Power => write!(f, "the capacity is no power of two"),
         }?;
         write!(f, " ({})", self.number())
     }
@@ -245,7 +252,7 @@ fn change_of(number: u64, value: u64) -> Result<Change, Refusal> {
 }
 
 fn refused(number: u64, value: u64) -> Refusal {
-    Refusal::from_number(short(number), short(value)).expect("the library's numbers are 0 to 15")
+    Refusal::from_number(short(number), short(value)).expect("the library's numbers are 0 to 16")
 }
 
 /// What slot says; the record moves on.

@@ -57,4 +57,5 @@ extern "C" {
         changes: usize,
     ) -> Drive;
     pub fn mandrozsi_pair_slot_here(own: *mut Drive, other: Drive, board: *mut u16, entries: usize, list: *mut u64, numbers: usize) -> Said;
+    pub fn mandrozsi_walk(capacity: u16, board: *const u16, entries: usize, marks: *mut u16, length: usize) -> Said;
 }

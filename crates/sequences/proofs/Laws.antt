@@ -177,6 +177,14 @@ pub power-window : (n a l p t : ℕ) → Position (2 ^ n) p → a % 2 ^ l ≡ 0 
     × (2 ^ l * t < 2 ^ n * countList (inRun a l) (leavesFrom (2 ^ n) p t) + 2 ^ n)
 power-window = powers.power-window
 
+-- For C = 2 ^ n, a slot with X slots before it, counted modulo C, serves the leaf RB(X, n),
+pub power-leaf : (n p X : ℕ) → Position (2 ^ n) p → X % 2 ^ n ≡ p / 2 → leafAt (2 ^ n) (servedFrom (2 ^ n) p) ≡ rb X n
+power-leaf = powers.slot-leaf
+
+-- and the next slot has X + 1 before it.
+pub power-next : (n p X : ℕ) → Position (2 ^ n) p → X % 2 ^ n ≡ p / 2 → suc X % 2 ^ n ≡ nextFrom (2 ^ n) p / 2
+power-next = powers.slot-next
+
 -- The weight spread sequence of order k, as a list, has 2 ^ k - 1 terms.
 pub wss-length : (k : ℕ) → suc (length (wss k)) ≡ 2 ^ k
 wss-length = lists.wss-length

@@ -1,10 +1,12 @@
 //! `cargo bench`: what the calls cost beside two plain-Rust versions, and what a slot costs and how far a stream lags beside other schedulers.
+//! `cargo bench -- engines` prints the table of the two engines alone.
 //! A table on standard output; with the library linked, docs/measured.csv and docs/measured-*.svg (without it, the same below target/measured/).
 //!
 //! Times are processor time of this thread, medians of several timings, the versions by turns in one run; boards, outputs and sheets are made
 //! before the clock starts and are warm, nothing is cleared between calls. Every version is called through a table of functions, none inlined.
 mod calls;
 mod clock;
+mod engines;
 mod pictures;
 mod schedulers;
 
@@ -55,6 +57,18 @@ impl Scheduler for ByRounds {
         }
         self.served += 1;
         usize::from(self.names[self.served - 1]) - 1
+    }
+}
+
+/// The library's walk.
+#[cfg(linked)]
+fn library_walk(c: u16, board: &[u16], marks: &mut [u16]) -> paper::tree::Walked {
+    // SAFETY: pointer and length are of one slice, lent for the call alone.
+    let said = unsafe { mandrozsi::raw::mandrozsi_walk(c, board.as_ptr(), board.len(), marks.as_mut_ptr(), marks.len()) };
+    paper::tree::Walked {
+        number: said.number as u16,
+        name: said.first,
+        leaf: said.second,
     }
 }
 
@@ -208,6 +222,36 @@ fn print_schedulers(points: &[Point], csv: &mut String) {
     }
 }
 
+fn print_engines(lines: &[engines::Line], csv: &mut String) {
+    println!(
+        "\n{:>5} {:>11} {:>11} {:>8} {:>13} {:>13}",
+        "C", "slot", "walk", "ratio", "slot by hand", "walk by hand"
+    );
+    for l in lines {
+        let told = |ns: Option<f64>| ns.map_or("-".into(), short);
+        let ratio = l.slot.zip(l.walk).map_or("-".into(), |(slot, walk)| format!("{:.2}", walk / slot));
+        println!(
+            "{:>5} {:>11} {:>11} {:>8} {:>13} {:>13}",
+            l.capacity,
+            told(l.slot),
+            told(l.walk),
+            ratio,
+            short(l.slot_by_hand),
+            short(l.walk_by_hand)
+        );
+        for (what, version, ns) in [
+            ("slot", "library", l.slot),
+            ("walk", "library", l.walk),
+            ("slot", "by hand", Some(l.slot_by_hand)),
+            ("walk", "by hand", Some(l.walk_by_hand)),
+        ] {
+            if let Some(ns) = ns {
+                writeln!(csv, "engine,{0},{0},{what},{version},{ns:.1},ns", l.capacity).unwrap();
+            }
+        }
+    }
+}
+
 /// The rounds of one small board's streams, scheduler by scheduler.
 fn strips() -> Vec<(&'static str, Vec<usize>)> {
     let mut rows = Vec::new();
@@ -230,10 +274,19 @@ fn main() {
     if ours.is_none() {
         println!("The static library is not linked here (see build.rs): its columns and its scheduler are missing.\n");
     }
+    #[cfg(linked)]
+    let walks = Some((&boundary::Boundary as &dyn Calls, library_walk as paper::tree::Version));
+    #[cfg(not(linked))]
+    let walks = None;
     let mut csv = String::from("table,capacity,streams,what,version,value,unit\n");
+    if std::env::args().any(|word| word == "engines") {
+        print_engines(&engines::table(walks), &mut csv);
+        return;
+    }
     print_calls(&calls::table(ours), &mut csv);
     let points = scheduler_points();
     print_schedulers(&points, &mut csv);
+    print_engines(&engines::table(walks), &mut csv);
     std::fs::create_dir_all(&folder).expect("the folder can be made");
     let write = |name: &str, text: &str| std::fs::write(folder.join(name), text).expect("the folder can be written");
     write("measured.csv", &csv);

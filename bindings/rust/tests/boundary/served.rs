@@ -239,3 +239,12 @@ unsafe extern "C" fn mandrozsi_pair_slot_here(
     *own = reply.drive;
     reply.said
 }
+#[no_mangle]
+unsafe extern "C" fn mandrozsi_walk(capacity: u16, board: *const u16, entries: usize, marks: *mut u16, length: usize) -> Said {
+    let asked = Drive {
+        capacity,
+        ..Drive::default()
+    };
+    let lent = [Lent::shared(board, entries), NONE, Lent::changed(marks, length)];
+    ask(17, one(asked), 0, 0, lent).said
+}
