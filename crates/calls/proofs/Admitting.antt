@@ -10,6 +10,7 @@ use borrow.Author.Tests.{eq-eqb}
 use Rattle.pieces.specs.Board.{weight}
 use Rattle.pieces.specs.Placing.{placed, admitted, admission}
 use Rattle.pieces.specs.declared.Admission.the-variants as admission
+use Rattle.pieces.proofs.Laws.{weight-le}
 use Rattle.calls.specs.declared.Drive.{Drive}
 use Rattle.calls.specs.declared.Change.{Change}
 use Rattle.calls.specs.declared.Change.the-variants as change
@@ -20,7 +21,7 @@ use Rattle.calls.specs.declared.Check.the-variants.{Clear, Refused}
 use Rattle.calls.specs.Refusals.{numberOf, askedAdd, admitMay, numbers, zeroOr, admitCheck, addCheck}
 use Rattle.calls.specs.Answers.{numberBy, changeAnswer}
 use Rattle.calls.specs.Results.{added, addedAnswer, addedBoard}
-use Rattle.calls.proofs.Checking.{by-bool, weight-le, add-parts, admit-clear}
+use Rattle.calls.proofs.Checking.{by-bool, add-parts, admit-clear}
 use Rattle.calls.proofs.Calling.{first-within, other-number}
 
 module _ (d : Drive) (B : List ℕ) (x w : ℕ) where

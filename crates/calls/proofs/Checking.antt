@@ -3,17 +3,18 @@
 use mathlib.Core.Path.{_≡_, refl, sym, _∙_}
 use mathlib.Core.Bool.{Bool, true, false, not, _||_}
 use mathlib.Core.List.{List, [], _∷_, _++_}
-use Prim.Native.Nat.{ℕ, zero, suc, _*_, _-_, _%_, _^_, _≤_, _<_}
+use Prim.Native.Nat.{ℕ, zero, _*_, _-_, _%_, _^_, _≤_, _<_}
 use native.Mathlib.Omega.{arith}
 use lib.Dec.{eqb, ltb}
-use lib.ListN.{length, getD}
+use lib.ListN.{length}
 use lib.Pow.{pow-pos}
 use borrow.Author.Tests.{eqb-true, eqb-false, ne-eqb, ltb-false, le-ltb, not-false}
 use Rattle.sequences.specs.Board as sequences
 use Rattle.sequences.proofs.Laws.{digits-small, shift-exact}
-use Rattle.pieces.specs.Board.{bit, good, weight}
+use Rattle.pieces.specs.Board.{good, weight}
 use Rattle.pieces.specs.Placing.{Placeable, Admissible}
 use Rattle.pieces.specs.Tidying.{Removable}
+use Rattle.pieces.proofs.Laws.{weight-le}
 use Rattle.calls.specs.declared.Drive.{Drive}
 use Rattle.calls.specs.declared.Refusal.{Refusal}
 use Rattle.calls.specs.declared.Refusal.the-variants.{Position, Midround, Damaged, Name, Weight, Taken, Absent, Room, Output}
@@ -33,15 +34,6 @@ order C z h =
     record { small = k; some = pow-pos (sequences.digits C); exact = shift-exact (sequences.digits C) (omega arith) }
 
 -- a number of leaves is at most the capacity
-bit-le : (t : Bool) → bit t ≤ 1
-bit-le true = omega arith
-bit-le false = omega arith
-
-pub weight-le : (C : ℕ) (B : List ℕ) (x : ℕ) → weight C B x ≤ C
-unfolding weight
-weight-le zero B x = omega arith
-weight-le (suc n) B x = omega (arith, weight-le n B x, bit-le (eqb (getD B n 0) x))
-
 pub count-small : (C : ℕ) (B : List ℕ) (x n : ℕ) → n ≡ weight C B x → n ≤ C
 count-small C B x n e = rw e (weight-le C B x)
 

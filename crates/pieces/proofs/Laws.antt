@@ -24,6 +24,8 @@ use Rattle.pieces.proofs.Weight as weights
 use Rattle.pieces.proofs.Adding as adding
 use Rattle.pieces.proofs.Removed as removing
 use Rattle.pieces.proofs.Sums as sums
+use Rattle.pieces.proofs.Masks as masks
+use Rattle.pieces.specs.Halving.{blank}
 
 -- ---- pieces cover every leaf once
 
@@ -63,6 +65,14 @@ digit-piece C B x l few sound set =
     let one : pieces C B x l 0 12 ≡ 1 =
     weights.pieces-digit C B x 0 12 (good-elim C B sound x) l ∙ ap (λ (n : ℕ). n / 2 ^ l % 2) (sym (weights.weight-total C B x (omega arith))) ∙ set in
     (nth C B x l 0 0 12, nth-is-piece C few B x l 0 (omega arith))
+
+-- A number of leaves is at most C.
+pub weight-le : (C : ℕ) (B : List ℕ) (x : ℕ) → weight C B x ≤ C
+weight-le = weights.weight-le
+
+-- What `no_sizes` gives.
+pub blank-zero : (n i : ℕ) → getD (blank n) i 0 ≡ 0
+blank-zero = masks.blank-zero
 
 -- Whether a board is good hangs on its leaves alone, and not on the entries beyond them.
 pub good-same : (C : ℕ) (B B′ : List ℕ) → ((i : ℕ) → i < C → getD B i 0 ≡ getD B′ i 0) → good C B ≡ true → good C B′ ≡ true

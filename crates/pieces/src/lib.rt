@@ -183,10 +183,19 @@ fn scan(board: &[u16], c: usize, a: usize, l: usize, sizes: &mut [u16]) -> usize
 }
 
 // No size of any name. The array is made here and nowhere else, so that no other proof computes it.
-fn no_sizes() -> [u16; 65536]
+pub fn no_sizes() -> [u16; 65536]
     ensures { λ r. ⌜ r ≡ halving.blank 65536 ⌝ }
 {
     [0u16; 65536]
+}
+
+// Whether the board is good. Where it is, each name's entry of the sizes, none at entry, has the weight of the name: on a good board the sizes of its
+// pieces are the binary digits of its weight.
+pub fn weights(board: &[u16], c: usize, sizes: &mut [u16]) -> bool
+    requires { ⌜ (c ≤ length (now board)) × (c ≤ 4095) × (length (now sizes) ≡ 65536) × ((x : ℕ) → getD (now sizes) x 0 ≡ 0) ⌝ }
+    ensures { λ r. ⌜ boards.Weighed c (now (board .entry)) (now (sizes .exit)) r ⌝ }
+{
+    scan(board, c, 0, 12, sizes) != TWICE
 }
 
 // Whether the board is good: no two pieces of the same name, idle included, have equal size.
@@ -195,7 +204,7 @@ pub fn good(board: &[u16], c: usize) -> bool
     ensures { λ r. ⌜ r ≡ boards.good c (now (board .entry)) ⌝ }
 {
     let mut sizes = no_sizes();
-    scan(board, c, 0, 12, &mut sizes) != TWICE
+    weights(board, c, &mut sizes)
 }
 
 // ---- the search for the smallest idle piece
