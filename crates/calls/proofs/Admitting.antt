@@ -24,6 +24,23 @@ use Rattle.calls.specs.Results.{added, addedAnswer, addedBoard}
 use Rattle.calls.proofs.Checking.{by-bool, add-parts, admit-clear}
 use Rattle.calls.proofs.Calling.{first-within, other-number}
 
+-- what admitting counts is at most C, whatever the weight
+pub placed-few : (C : ℕ) (B : List ℕ) (x w n : ℕ) → admission.Placed n ≡ admission C B x w → n ≤ C
+placed-few C B x w n e = by-bool (ltb (weight C B 0) w)
+    (λ t. let f = rw t at e in let z : _≡_ {A = ℕ} 0 1 = cc in absurd (omega arith))
+    (λ t.
+    let f = rw t at e in
+    let i : n ≡ weight C (placed C B x w) 0 = cc in
+    omega (arith, weight-le C (placed C B x w) 0))
+
+pub room-few : (C : ℕ) (B : List ℕ) (x w n : ℕ) → admission.Room n ≡ admission C B x w → n ≤ C
+room-few C B x w n e = by-bool (ltb (weight C B 0) w)
+    (λ t.
+    let f = rw t at e in
+    let i : n ≡ weight C B 0 = cc in
+    omega (arith, weight-le C B 0))
+    (λ t. let f = rw t at e in let z : _≡_ {A = ℕ} 0 1 = cc in absurd (omega arith))
+
 module _ (d : Drive) (B : List ℕ) (x w : ℕ) where
   -- what an answer and a board are to be
   abbrev Is : Change → List ℕ → Type 0
@@ -53,23 +70,20 @@ module _ (d : Drive) (B : List ℕ) (x w : ℕ) where
           absurd (omega arith)
 
   module _ (clear : admitCheck d B x w ≡ Clear) (n : ℕ) (E : List ℕ) (left : E ≡ admitted (d .capacity) B x w) where
-    small : d .capacity ≤ 4095
-    small = admit-clear d B x w clear .small
-
-    pub add-placed : admission.Placed n ≡ admission (d .capacity) B x w → (n ≤ 4095) × Is (change.Done n) E
+    pub add-placed : admission.Placed n ≡ admission (d .capacity) B x w → Is (change.Done n) E
     add-placed e = by-bool (ltb (weight (d .capacity) B 0) w)
         (λ t. let f = rw t at e in let z : _≡_ {A = ℕ} 0 1 = cc in absurd (omega arith))
         (λ t.
         let k : addCheck d B x w ≡ Clear = add-parts d B x w ∙ rw (clear, t) refl in
         let f = rw t at e in
         let i : n ≡ weight (d .capacity) (placed (d .capacity) B x w) 0 = cc in
-        (omega (arith, small, weight-le (d .capacity) (placed (d .capacity) B x w) 0), rw (k, ← i) (refl, refl, rw t at left)))
+        rw (k, ← i) (refl, refl, rw t at left))
 
-    pub add-room : admission.Room n ≡ admission (d .capacity) B x w → (n ≤ 4095) × Is (change.Room n) E
+    pub add-room : admission.Room n ≡ admission (d .capacity) B x w → Is (change.Room n) E
     add-room e = by-bool (ltb (weight (d .capacity) B 0) w)
         (λ t.
         let k : addCheck d B x w ≡ Refused Room = add-parts d B x w ∙ rw (clear, t) refl in
         let f = rw t at e in
         let i : n ≡ weight (d .capacity) B 0 = cc in
-        (omega (arith, small, weight-le (d .capacity) B 0), rw (k, ← i) (refl, refl, rw t at left)))
+        rw (k, ← i) (refl, refl, rw t at left))
         (λ t. let f = rw t at e in let z : _≡_ {A = ℕ} 0 1 = cc in absurd (omega arith))
