@@ -1,0 +1,67 @@
+-- `tables::fitting::next_entry` meets its contract.
+-- Assumes nothing.
+use borrow.Author.Needs.{needs}
+use mathlib.Core.Path.{_≡_}
+use Prim.Native.Nat.{_+_, _-_, _≤_}
+use native.Mathlib.Omega.{arith}
+use Rattle.tables.specs.Looking as looking
+use Rattle.tables.proofs.Entries.{skipped-more}
+use Rattle.tables.proofs.fitting.next_entry.Statement.{statement}
+use Rattle.tables.proofs.fitting.next_entry.Tie as tie
+
+abbrev Inv-loop : tie.InvT-loop
+Inv-loop table c i j₀ j = (j ≤ c) × looking.Skipped c table i j
+
+abbrev μ-loop : tie.MeasureT-loop
+μ-loop table c i j₀ j = c - j
+
+skip-eights-requires : tie.Need-skip-eights-requires Inv-loop μ-loop
+skip-eights-requires c κs = search needs
+
+loop-holds : tie.Need-loop-holds Inv-loop μ-loop
+loop-holds c = (c .skip-eights .ensures .to, c .skip-eights .ensures)
+
+mul-if1 : tie.Need-mul-if1 Inv-loop μ-loop
+mul-if1 c = omega arith
+
+shared-slice-read-if1 : tie.Need-shared-slice-read-if1 Inv-loop μ-loop
+shared-slice-read-if1 c = omega arith
+
+returns : tie.Need-returns Inv-loop μ-loop
+returns c = c .before .before .before .loop .inv .1
+
+add-j : tie.Need-add-j Inv-loop μ-loop
+add-j c = omega (arith, c .before .before .before .loop .inv .0)
+
+loop-less : tie.Need-loop-less Inv-loop μ-loop
+loop-less c = omega (arith, c .before .before .before .loop .inv .0)
+
+loop-again : tie.Need-loop-again Inv-loop μ-loop
+loop-again c =
+    let a = c .before .before .before .before .before .before .args in
+    let L = c .before .before .before .loop in
+    let end : L .j + 1 ≤ a .c = omega arith in
+    (end, skipped-more (a .c) (a .table .now) (a .i) (L .j) (L .j + 1) (L .inv .1) (omega arith) end (λ k p q. let e : k ≡ L .j = omega arith in rw e (c .if1 .left)))
+
+returns-2 : tie.Need-returns-2 Inv-loop μ-loop
+returns-2 c =
+    let a = c .before .before .before .before .args in
+    let L = c .before .loop in
+    let e : L .j ≡ a .c = omega (arith, L .inv .0) in
+    rw e at (L .inv .1)
+
+pub next-entry-spec : {M : Type 1} → statement M
+next-entry-spec =
+    tie.close
+    (tie.spec
+    Inv-loop
+    μ-loop
+    skip-eights-requires
+    loop-holds
+    mul-if1
+    shared-slice-read-if1
+    returns
+    add-j
+    loop-less
+    loop-again
+    returns-2)

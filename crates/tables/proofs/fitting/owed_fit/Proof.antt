@@ -1,0 +1,87 @@
+-- `tables::fitting::owed_fit` meets its contract.
+-- Assumes nothing.
+use borrow.Author.Needs.{needs}
+use mathlib.Core.Path.{_≡_, sym, ap, _∙_}
+use mathlib.Core.Logic.{⊎-elim}
+use Prim.Native.Nat.{ℕ, _-_, _≤_}
+use native.Mathlib.Omega.{arith}
+use lib.Dec.{eqb}
+use Rattle.tables.specs.Sharing as sharing
+use Rattle.tables.specs.Looking as looking
+use Rattle.tables.proofs.Entries.{passing-hit, passing-miss, passing-every}
+use Rattle.tables.proofs.fitting.owed_fit.Statement.{statement}
+use Rattle.tables.proofs.fitting.owed_fit.Tie as tie
+
+abbrev Inv-loop : tie.InvT-loop
+Inv-loop c rates owed n₀ i₀ n i = (i ≤ c) × (n ≤ i) × (n ≡ looking.passing (λ j. sharing.owedFits rates owed j) i)
+
+abbrev μ-loop : tie.MeasureT-loop
+μ-loop c rates owed n₀ i₀ n i = c - i
+
+loop-holds : tie.Need-loop-holds Inv-loop μ-loop
+unfolding looking.passing
+loop-holds c = omega arith
+
+mul-in-range : tie.Need-mul-in-range Inv-loop μ-loop
+mul-in-range c = omega arith
+
+shared-slice-read-in-range : tie.Need-shared-slice-read-in-range Inv-loop μ-loop
+shared-slice-read-in-range c = omega arith
+
+mul-in-range-2 : tie.Need-mul-in-range-2 Inv-loop μ-loop
+mul-in-range-2 c = omega arith
+
+shared-slice-read-in-range-2 : tie.Need-shared-slice-read-in-range-2 Inv-loop μ-loop
+shared-slice-read-in-range-2 c = omega arith
+
+in-range-requires : tie.Need-in-range-requires Inv-loop μ-loop
+in-range-requires c κs = search needs
+
+add-n : tie.Need-add-n Inv-loop μ-loop
+add-n c = omega arith
+
+add-i : tie.Need-add-i Inv-loop μ-loop
+add-i c = omega arith
+
+loop-less : tie.Need-loop-less Inv-loop μ-loop
+loop-less c = omega arith
+
+loop-again : tie.Need-loop-again Inv-loop μ-loop
+unfolding sharing.owedFits
+loop-again c =
+    let a = c .before .before .before .before .before .before .before .before .args in
+    let i = c .before .before .before .before .before .loop .i in
+    let told = sym (c .before .in-range .ensures) in
+    ⊎-elim
+    (λ w. omega (arith, passing-hit (λ j. sharing.owedFits (a .rates .now) (a .owed .now) j) i (told ∙ w .0 .taken)))
+    (λ w. omega (arith, passing-miss (λ j. sharing.owedFits (a .rates .now) (a .owed .now) j) i (told ∙ w .0 .left)))
+    (c .if1 .came)
+
+cast-result : tie.Need-cast-result Inv-loop μ-loop
+cast-result c = omega arith
+
+returns : tie.Need-returns Inv-loop μ-loop
+unfolding sharing.owedFit
+returns c =
+    let a = c .before .before .before .before .args in
+    let e : c .before .loop .i ≡ a .c = omega arith in
+    ap (λ (n : ℕ). eqb n (a .c)) (c .before .loop .inv .2 ∙ ap (looking.passing (λ j. sharing.owedFits (a .rates .now) (a .owed .now) j)) e) ∙ passing-every (λ j. sharing.owedFits (a .rates .now) (a .owed .now) j) (a .c)
+
+pub owed-fit-spec : {M : Type 1} → statement M
+owed-fit-spec =
+    tie.close
+    (tie.spec
+    Inv-loop
+    μ-loop
+    loop-holds
+    mul-in-range
+    shared-slice-read-in-range
+    mul-in-range-2
+    shared-slice-read-in-range-2
+    in-range-requires
+    add-n
+    add-i
+    loop-less
+    loop-again
+    cast-result
+    returns)

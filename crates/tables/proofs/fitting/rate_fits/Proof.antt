@@ -1,0 +1,62 @@
+-- `tables::fitting::rate_fits` meets its contract.
+-- Assumes nothing.
+use borrow.Author.Needs.{needs}
+use native.Mathlib.Omega.{arith}
+use borrow.Author.Tests.{eq-eqb, ne-eqb}
+use Rattle.tables.specs.Looking as looking
+use Rattle.tables.proofs.Holding.{held-some}
+use Rattle.tables.proofs.fitting.rate_fits.Statement.{statement}
+use Rattle.tables.proofs.fitting.rate_fits.Tie as tie
+
+returns : tie.Need-returns
+unfolding looking.rateTest
+returns c = simp (eq-eqb _ _ (c .if1 .taken))
+
+returns-2 : tie.Need-returns-2
+unfolding looking.rateTest
+returns-2 c = simp (ne-eqb _ _ (c .before .if1 .left), eq-eqb _ _ (c .if2 .taken))
+
+held-for-requires : tie.Need-held-for-requires
+held-for-requires c κs = search needs
+
+mul-m : tie.Need-mul-m
+mul-m c = search needs
+
+shared-slice-read-m : tie.Need-shared-slice-read-m
+shared-slice-read-m c = search needs
+
+cast-m : tie.Need-cast-m
+cast-m c = omega (arith, c .shared-slice-known2 .given (c .before .before .before .before .before .args .x))
+
+returns-3 : tie.Need-returns-3
+unfolding looking.rateTest
+returns-3 c =
+    let s = ne-eqb _ _ (c .before .before .before .before .if1 .left) in
+    let t = ne-eqb _ _ (c .before .before .before .if2 .left) in
+    let u = rw (c .before .before .held-for .ensures) at (ne-eqb _ _ (c .if3 .taken)) in
+    simp (s, t, u)
+
+rem-result : tie.Need-rem-result
+rem-result c = omega (arith, c .before .before .held-for .ensures, held-some (c .before .before .before .before .before .before .args .r) (omega arith))
+
+returns-4 : tie.Need-returns-4
+unfolding looking.rateTest
+returns-4 c =
+    let s = ne-eqb _ _ (c .before .before .before .before .if1 .left) in
+    let t = ne-eqb _ _ (c .before .before .before .if2 .left) in
+    let u = rw (c .before .before .held-for .ensures) at (eq-eqb _ _ (c .if3 .left)) in
+    simp (s, t, u, c .before .before .held-for .ensures)
+
+pub rate-fits-spec : {M : Type 1} → statement M
+rate-fits-spec =
+    tie.close
+    (tie.spec
+    returns
+    returns-2
+    held-for-requires
+    mul-m
+    shared-slice-read-m
+    cast-m
+    returns-3
+    rem-result
+    returns-4)

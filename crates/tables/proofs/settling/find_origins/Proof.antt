@@ -1,0 +1,52 @@
+-- `tables::settling::find_origins` meets its contract.
+-- Assumes nothing.
+use borrow.Author.Needs.{needs}
+use mathlib.Core.Path.{ap, _∙_}
+use mathlib.Core.List.{List}
+use Prim.Native.Nat.{ℕ}
+use native.Mathlib.Omega.{arith}
+use lib.ListN.{getD}
+use Rattle.pieces.proofs.Laws.{blank-zero}
+use Rattle.tables.specs.Looking as looking
+use Rattle.tables.proofs.Entries.{written-at}
+use Rattle.tables.proofs.Noting.{origins-found}
+use Rattle.tables.proofs.settling.find_origins.Statement.{statement}
+use Rattle.tables.proofs.settling.find_origins.Tie as tie
+
+no-sizes-requires : tie.Need-no-sizes-requires
+no-sizes-requires c κs = search needs
+
+slice-aggregate-mark-leaves : tie.Need-slice-aggregate-mark-leaves
+slice-aggregate-mark-leaves c = search needs
+
+mark-leaves-requires : tie.Need-mark-leaves-requires
+mark-leaves-requires c κs = (omega arith, omega arith, search needs, λ x. rw (c .before .no-sizes .ensures) (blank-zero 65536 x))
+
+slice-aggregate-take-marks : tie.Need-slice-aggregate-take-marks
+slice-aggregate-take-marks c = search needs
+
+take-marks-requires : tie.Need-take-marks-requires
+take-marks-requires c κs = search needs
+
+same-length : tie.Need-same-length
+same-length c = search needs
+
+returns : tie.Need-returns
+returns c =
+    let a = c .before .before .before .before .before .before .before .before .before .before .before .before .before in
+    let M = c .before .before .before .before .before .before .before .mark-leaves .last .1 .1 .0 in
+    origins-found (a .args .c) (a .args .old .now) (a .args .board .now) M (c .before .before .before .before .before .before .before .mark-leaves .ensures) (λ i. omega (arith, c .before .before .before .before .before .before .before .before .before .before .before .shared-slice-known2 .given i)) (c .before .before .before .take-marks .last .1 .1 .1 .0) (λ i h.
+    ap (λ (U : List ℕ). getD U i 0) (c .before .before .before .take-marks .ensures)
+    ∙ written-at (λ j. looking.origin (a .args .c) M (a .args .board .now) j) (a .args .from .now) (a .args .c) i (omega (arith, a .pre .3)) h)
+
+pub find-origins-spec : {M : Type 1} → statement M
+find-origins-spec =
+    tie.close
+    (tie.spec
+    no-sizes-requires
+    slice-aggregate-mark-leaves
+    mark-leaves-requires
+    slice-aggregate-take-marks
+    take-marks-requires
+    same-length
+    returns)

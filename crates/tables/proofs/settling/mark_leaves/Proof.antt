@@ -1,0 +1,73 @@
+-- `tables::settling::mark_leaves` meets its contract.
+-- Assumes nothing.
+use borrow.Author.Needs.{needs}
+use mathlib.Core.Path.{_≡_, refl, sym, ap, _∙_}
+use Prim.Native.Nat.{ℕ, _-_, _≤_, _<_}
+use native.Mathlib.Omega.{arith}
+use lib.ListN.{length, getD}
+use Rattle.tables.specs.Looking as looking
+use Rattle.tables.proofs.Noting.{marked-start, marked-end, marked-next}
+use Rattle.tables.proofs.settling.mark_leaves.Statement.{statement}
+use Rattle.tables.proofs.settling.mark_leaves.Tie as tie
+
+abbrev Inv-loop : tie.InvT-loop
+Inv-loop board c marks₀ i₀ marks i = (i ≤ c) × (length marks ≡ 65536) × ((x : ℕ) → x < 65536 → getD marks x 0 ≡ looking.marked c board i x)
+
+abbrev μ-loop : tie.MeasureT-loop
+μ-loop board c marks₀ i₀ marks i = c - i
+
+loop-holds : tie.Need-loop-holds Inv-loop μ-loop
+loop-holds c = (omega arith, c .before .before .pre .2, λ x l. c .before .before .pre .3 x ∙ sym (marked-start _ _ x))
+
+mul-mark-leaf : tie.Need-mul-mark-leaf Inv-loop μ-loop
+mul-mark-leaf c = omega arith
+
+shared-slice-read-mark-leaf : tie.Need-shared-slice-read-mark-leaf Inv-loop μ-loop
+shared-slice-read-mark-leaf c = omega arith
+
+cast-mark-leaf : tie.Need-cast-mark-leaf Inv-loop μ-loop
+cast-mark-leaf c = omega (arith, c .shared-slice-known2 .given (c .before .before .before .loop .i))
+
+mark-leaf-requires : tie.Need-mark-leaf-requires Inv-loop μ-loop
+mark-leaf-requires c κs = omega (arith, c .shared-slice-known2 .given (c .before .before .before .loop .i))
+
+add-i : tie.Need-add-i Inv-loop μ-loop
+add-i c = omega arith
+
+loop-less : tie.Need-loop-less Inv-loop μ-loop
+loop-less c = omega arith
+
+loop-again : tie.Need-loop-again Inv-loop μ-loop
+loop-again c =
+    let a = c .before .before .before .before .before .before .before .before .before .args in
+    let L = c .before .before .before .before .before .before .loop in
+    let small : getD (a .board .now) (L .i) 0 < length (L .marks) = omega (arith, c .before .before .before .shared-slice-known2 .given (L .i), L .inv .1) in
+    (omega arith, omega (arith, c .before .before .mark-leaf .kept .0, L .inv .1), marked-next (a .c) (a .board .now) (L .i) _ (L .marks) _ (c .before .before .before .before .before .loop-test .taken) refl small (c .before .before .mark-leaf .ensures) (L .inv .2) (omega (arith, L .inv .1)))
+
+same-length : tie.Need-same-length Inv-loop μ-loop
+same-length c = search needs
+
+returns : tie.Need-returns Inv-loop μ-loop
+returns c =
+    let e : c .before .loop .i ≡ c .before .before .before .before .args .c = omega arith in
+    record {
+      names = c .before .loop .inv .1;
+      marks = λ x l. c .before .loop .inv .2 x l ∙ ap (λ (k : ℕ). looking.marked (c .before .before .before .before .args .c) (c .before .before .before .before .args .board .now) k x) e ∙ marked-end _ _ x;
+    }
+
+pub mark-leaves-spec : {M : Type 1} → statement M
+mark-leaves-spec =
+    tie.close
+    (tie.spec
+    Inv-loop
+    μ-loop
+    loop-holds
+    mul-mark-leaf
+    shared-slice-read-mark-leaf
+    cast-mark-leaf
+    mark-leaf-requires
+    add-i
+    loop-less
+    loop-again
+    same-length
+    returns)

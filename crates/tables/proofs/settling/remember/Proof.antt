@@ -1,0 +1,34 @@
+-- `tables::settling::remember` meets its contract.
+-- Assumes nothing.
+use borrow.Author.Needs.{needs}
+use mathlib.Core.Path.{ap, _∙_}
+use mathlib.Core.List.{List}
+use Prim.Native.Nat.{ℕ, _≤_}
+use native.Mathlib.Omega.{arith}
+use lib.ListN.{length, getD}
+use Rattle.tables.proofs.Entries.{written-at}
+use Rattle.tables.proofs.settling.remember.Statement.{statement}
+use Rattle.tables.proofs.settling.remember.Tie as tie
+
+-- there is room for every leaf
+long : (c : tie.After-copy-table) → c .before .before .before .before .args .c ≤ length (c .before .before .no-entries .result)
+long c = search needs
+
+no-entries-requires : tie.Need-no-entries-requires
+no-entries-requires c κs = search needs
+
+slice-aggregate-copy-table : tie.Need-slice-aggregate-copy-table
+slice-aggregate-copy-table c = search needs
+
+copy-table-requires : tie.Need-copy-table-requires
+copy-table-requires c κs = search needs
+
+returns : tie.Need-returns
+returns c =
+    let a = c .before .before .before .before .before .args in
+    let l = long (c .before) in
+    λ i h. ap (λ (U : List ℕ). getD U i 0) (c .before .copy-table .ensures) ∙ written-at (λ j. getD (a .board .now) j 0) (c .before .before .before .no-entries .result) (a .c) i (omega arith) h
+
+pub remember-spec : {M : Type 1} → statement M
+remember-spec =
+    tie.close (tie.spec no-entries-requires slice-aggregate-copy-table copy-table-requires returns)

@@ -1,0 +1,4 @@
+pub mod Sharing
+pub mod Settling
+pub mod Turns
+pub mod Looking

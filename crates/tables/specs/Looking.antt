@@ -1,0 +1,74 @@
+-- What the functions that look through a board or a table promise: entries, notes by name, the leaf that decides a turn. No promise of a call cites it.
+-- Assumes nothing.
+use mathlib.Core.Path.{_≡_}
+use mathlib.Core.Bool.{Bool, not, _&&_, _||_, cond}
+use mathlib.Core.List.{List}
+use mathlib.Core.Logic.{_⊎_}
+use Prim.Native.Nat.{ℕ, zero, suc, _+_, _-_, _%_, _≤_, _<_}
+use lib.Dec.{eqb, ltb}
+use lib.ListN.{getD, length}
+use Rattle.pieces.specs.Board.{bit, weight}
+use Rattle.tables.specs.Sharing.{heldFor, lowest, leads}
+use Rattle.tables.specs.Settling.{settledAt}
+
+-- ---- entries looked through
+
+-- The sum of n entries from i on.
+unfoldable pub sumOf : List ℕ → ℕ → ℕ → ℕ
+sumOf T i zero = 0
+sumOf T i (suc n) = sumOf T i n + getD T (i + n) 0
+
+-- The entries from i on to j are 0.
+pub record Skipped (C : ℕ) (T : List ℕ) (i j : ℕ) : Type 0 where
+  pub from : i ≤ j
+  pub to : j ≤ C
+  pub zeros : (k : ℕ) → i ≤ k → k < j → getD T k 0 ≡ 0
+
+-- How many numbers below n pass the test f.
+unfoldable pub passing : (ℕ → Bool) → ℕ → ℕ
+passing f zero = 0
+passing f (suc n) = passing f n + bit (f n)
+
+-- An entry r at leaf i, which holds x, as the weights S by name tell it: 0, or that of a stream of R leaves that start at a multiple of R.
+unfoldable pub rateTest : List ℕ → ℕ → ℕ → ℕ → Bool
+unfolding heldFor
+rateTest S x r i = eqb r 0 || (not (eqb x 0) && (eqb (getD S x 0 % 4096) (heldFor r) && eqb (i % heldFor r) 0))
+
+-- The leaf l decides the turn at leaf a: it is the lowest leaf of the name there, or that name is not over-allocated and l has no r either.
+pub record Decides (C : ℕ) (B T : List ℕ) (a l : ℕ) : Type 0 where
+  pub below : l < C
+  pub leaf : (l ≡ lowest C B (getD B a 0)) ⊎ ((getD T l 0 ≡ 0) × (getD T (lowest C B (getD B a 0)) 0 ≡ 0))
+
+-- ---- marks: one more than the lowest leaf of a name, 0 where there is none
+
+unfoldable pub mark : ℕ → List ℕ → ℕ → ℕ
+unfolding lowest
+mark C B x = cond (ltb (lowest C B x) C) (suc (lowest C B x)) 0
+
+-- What is marked before leaf i.
+unfoldable pub marked : ℕ → List ℕ → ℕ → ℕ → ℕ
+unfolding lowest
+marked C B i x = cond (eqb (weight i B x) 0) 0 (suc (lowest C B x))
+
+-- M has the marks of the board B.
+pub record Marks (C : ℕ) (B M : List ℕ) : Type 0 where
+  pub names : length M ≡ 65536
+  pub marks : (x : ℕ) → x < 65536 → getD M x 0 ≡ mark C B x
+
+-- What is left of the marks M under a name, before leaf i, where the first leaf of each name takes its mark: of idle nothing.
+unfoldable pub unmet : List ℕ → List ℕ → ℕ → ℕ → ℕ
+unmet M B i x = cond (eqb x 0) 0 (cond (eqb (weight i B x) 0) (getD M x 0) 0)
+
+-- What the marks M have for leaf i: the mark of its name, at the lowest leaf of a stream.
+unfoldable pub origin : ℕ → List ℕ → List ℕ → ℕ → ℕ
+unfolding leads
+origin C M B i = cond (leads C B i) (getD M (getD B i 0) 0) 0
+
+-- The entry of a table that a mark leads to.
+unfoldable pub fetched : List ℕ → ℕ → ℕ
+fetched T o = cond (eqb o 0) 0 (getD T (o - 1) 0)
+
+-- F says for each leaf of the board B′ where its entries come from on the board B: a mark that leads to what settles, in whatever table.
+pub record Origins (C : ℕ) (B B′ F : List ℕ) : Type 0 where
+  pub marks : (i : ℕ) → i < C → getD F i 0 ≤ C
+  pub leads-to : (i : ℕ) → i < C → (T : List ℕ) → fetched T (getD F i 0) ≡ settledAt C B B′ T i

@@ -1,0 +1,158 @@
+// Tables after a change of the board: what stood at the old lowest leaf of a stream goes to its new one. The board as it was is kept beside it while it is
+// changed.
+ghost use mathlib.Core.Path.{_≡_};
+ghost use mathlib.Core.Bool.{_&&_, cond};
+ghost use Prim.Native.Nat.{ℕ, _+_, _≤_, _<_};
+ghost use lib.Dec.{eqb};
+ghost use lib.ListN.{getD, set, length};
+ghost use Rattle.tables.specs.Sharing as sharing;
+ghost use Rattle.tables.specs.Settling as settled;
+ghost use Rattle.tables.specs.Looking as looking;
+
+// Marks the name x with the leaf i, unless it is marked.
+fn mark_leaf(marks: &mut [u16], x: usize, i: usize)
+    requires { ⌜ (x < 65536) × (i < 4095) × (length (now marks) ≡ 65536) ⌝ }
+    ensures { λ _. ⌜ now (marks .exit) ≡ cond (eqb (getD (now (marks .entry)) x 0) 0) (set (now (marks .entry)) x (i + 1)) (now (marks .entry)) ⌝ }
+{
+    if marks[x] == 0 {
+        marks[x] = (i + 1) as u16;
+    }
+}
+
+// Marks each name with one more than its lowest leaf.
+fn mark_leaves(board: &[u16], c: usize, marks: &mut [u16])
+    requires { ⌜ (c ≤ length (now board)) × (c ≤ 4095) × (length (now marks) ≡ 65536) × ((x : ℕ) → getD (now marks) x 0 ≡ 0) ⌝ }
+    ensures { λ _. ⌜ looking.Marks c (now (board .entry)) (now (marks .exit)) ⌝ }
+{
+    let mut i: usize = 0;
+    while i < c {
+        mark_leaf(marks, board[i] as usize, i);
+        i += 1;
+    }
+}
+
+// The mark of a name, which is met then.
+fn take_mark(marks: &mut [u16], x: usize) -> u16
+    requires { ⌜ (x < 65536) × (length (now marks) ≡ 65536) ⌝ }
+    ensures { λ r. ⌜ (r ≡ getD (now (marks .entry)) x 0) × (now (marks .exit) ≡ set (now (marks .entry)) x 0) ⌝ }
+{
+    let m = marks[x];
+    marks[x] = 0;
+    m
+}
+
+// For each leaf of a board that is the lowest of a stream, the mark of its name; 0 for every other.
+fn take_marks(board: &[u16], c: usize, marks: &mut [u16], from: &mut [u16])
+    requires { ⌜ (c ≤ length (now board)) × (c ≤ 4095) × (length (now marks) ≡ 65536) × (c ≤ length (now from)) ⌝ }
+    ensures { λ _. ⌜ now (from .exit) ≡ settled.written (λ i. looking.origin c (now (marks .entry)) (now (board .entry)) i) c (now (from .entry)) ⌝ }
+{
+    marks[0] = 0;
+    let mut i: usize = 0;
+    while i < c {
+        from[i] = take_mark(marks, board[i] as usize);
+        i += 1;
+    }
+}
+
+// Where the entries of each leaf come from: the mark, on the board as it was, of a stream that has its lowest leaf there.
+fn find_origins(old: &[u16], board: &[u16], c: usize, from: &mut [u16])
+    requires { ⌜ (c ≤ length (now old)) × (c ≤ length (now board)) × (c ≤ 4095) × (c ≤ length (now from)) ⌝ }
+    ensures { λ _. ⌜ looking.Origins c (now (old .entry)) (now (board .entry)) (now (from .exit)) ⌝ }
+{
+    let mut marks = pieces::no_sizes();
+    mark_leaves(old, c, &mut marks);
+    take_marks(board, c, &mut marks, from);
+}
+
+// The first c entries of a table, written to another.
+fn copy_table(table: &[u16], c: usize, to: &mut [u16])
+    requires { ⌜ (c ≤ length (now table)) × (c ≤ length (now to)) × (c ≤ 4095) ⌝ }
+    ensures { λ _. ⌜ now (to .exit) ≡ settled.written (λ i. getD (now (table .entry)) i 0) c (now (to .entry)) ⌝ }
+{
+    let mut i: usize = 0;
+    while i < c {
+        to[i] = table[i];
+        i += 1;
+    }
+}
+
+// The entry of a table that a mark leads to.
+fn fetch_entry(table: &[u16], o: usize) -> u16
+    requires { ⌜ (o ≤ length (now table)) × (o ≤ 4095) ⌝ }
+    ensures { λ r. ⌜ r ≡ looking.fetched (now (table .entry)) o ⌝ }
+{
+    if o == 0 {
+        return 0;
+    }
+    table[o - 1]
+}
+
+// Gives each of the first c entries of a table what its mark leads to in another.
+fn place_entries(table: &mut [u16], c: usize, from: &[u16], old: &[u16])
+    requires { ⌜ (c ≤ length (now table)) × (c ≤ length (now from)) × (c ≤ length (now old)) × (c ≤ 4095) × ((i : ℕ) → i < c → getD (now from) i 0 ≤ c) ⌝ }
+    ensures { λ _. ⌜ now (table .exit) ≡ settled.written (λ i. looking.fetched (now (old .entry)) (getD (now (from .entry)) i 0)) c (now (table .entry)) ⌝ }
+{
+    let mut i: usize = 0;
+    while i < c {
+        table[i] = fetch_entry(old, from[i] as usize);
+        i += 1;
+    }
+}
+
+// Settles one table: each of its first c entries becomes what its mark leads to in the table as it was. Entries that are all 0 stay so.
+fn settle(table: &mut [u16], c: usize, from: &[u16])
+    requires { ⌜ (c ≤ length (now table)) × (c ≤ length (now from)) × (c ≤ 4095) × ((i : ℕ) → i < c → getD (now from) i 0 ≤ c) ⌝ }
+    ensures { λ _. ⌜ now (table .exit) ≡ settled.written (λ i. looking.fetched (now (table .entry)) (getD (now (from .entry)) i 0)) c (now (table .entry)) ⌝ }
+{
+    if crate::all_zero(table, c) {
+        return;
+    }
+    let mut old = crate::no_entries();
+    copy_table(table, c, &mut old);
+    place_entries(table, c, from, &old);
+}
+
+// Whether three tables have no entry that is not 0.
+fn none(c: usize, rates: &[u16], owed: &[u16], also: &[u16]) -> bool
+    requires { ⌜ (c ≤ length (now rates)) × (c ≤ length (now owed)) × (c ≤ length (now also)) × (c ≤ 4095) ⌝ }
+    ensures { λ r. ⌜ r ≡ (sharing.allZero c (now (rates .entry)) && (sharing.allZero c (now (owed .entry)) && sharing.allZero c (now (also .entry)))) ⌝ }
+{
+    if crate::all_zero(rates, c) {
+        if crate::all_zero(owed, c) {
+            return crate::all_zero(also, c);
+        }
+    }
+    false
+}
+
+// The first c leaves of a board, to be kept while it is changed.
+pub fn remember(board: &[u16], c: usize) -> [u16; 4096]
+    requires { ⌜ (c ≤ length (now board)) × (c ≤ 4095) ⌝ }
+    ensures { λ r. ⌜ settled.Alike c (now (board .entry)) r ⌝ }
+{
+    let mut old = crate::no_entries();
+    copy_table(board, c, &mut old);
+    old
+}
+
+// Settles the tables of two drives on a board that has changed. `old` is the board as it was.
+pub fn settle_tables(
+    old: &[u16],
+    board: &[u16],
+    c: usize,
+    rates: &mut [u16],
+    owed: &mut [u16],
+    owed_other: &mut [u16],
+)
+    requires { ⌜ (c ≤ length (now old)) × (c ≤ length (now board)) × (c ≤ 4095) × (c ≤ length (now rates)) × (c ≤ length (now owed)) × (c ≤ length (now «owed_other»)) ⌝ }
+    ensures { λ _. ⌜ (now (rates .exit) ≡ settled.settledTable c (now (old .entry)) (now (board .entry)) (now (rates .entry))) × (now (owed .exit) ≡ settled.settledTable c (now (old .entry)) (now (board .entry)) (now (owed .entry))) × (now («owed_other» .exit) ≡ settled.settledTable c (now (old .entry)) (now (board .entry)) (now («owed_other» .entry))) ⌝ }
+{
+    if none(c, rates, owed, owed_other) {
+        return;
+    }
+    let mut from = crate::no_entries();
+    find_origins(old, board, c, &mut from);
+    settle(rates, c, &from);
+    settle(owed, c, &from);
+    settle(owed_other, c, &from);
+}
