@@ -72,7 +72,7 @@ enum mandrozsi_number {
     MANDROZSI_CAPACITY = 1,  /* C is 0 or above 4,095 */
     MANDROZSI_SHORT = 2,     /* the board has fewer than C entries, or the list fewer than MANDROZSI_LIST numbers; or there are under C - 1 marks */
     MANDROZSI_POSITION = 3,  /* p is 0 or above 2^k - 1; of two drives also: their capacities differ */
-    MANDROZSI_MIDROUND = 4,  /* p is not 1 (save), of two drives that of either */
+    MANDROZSI_MIDROUND = 4,  /* p is not 1 (save and fresh), of two drives that of either */
     MANDROZSI_DAMAGED = 5,   /* the board is not good: two pieces of one name, or two idle ones, have equal size */
     MANDROZSI_NAME = 6,      /* the name is 0 */
     MANDROZSI_WEIGHT = 7,    /* the weight is 0 */
@@ -129,13 +129,18 @@ mandrozsi_reply mandrozsi_read(const uint8_t *sheet, size_t length, uint16_t *bo
  * 13, first = the ticket: the order waits. 15: no such ticket, or a list that is too short. */
 mandrozsi_said mandrozsi_fetch(uint64_t *list, size_t numbers, uint64_t ticket);
 
+/* Lays the board out afresh: as if every stream had been added to an opened board by falling weight, then rising name. Two boards of one capacity with the
+ * same streams and weights are then alike, whatever their histories. It is no change that could wait: it is made at once, at p = 1, and leaves the orders
+ * that wait as they are. Refused: 1 to 5. */
+mandrozsi_reply mandrozsi_fresh(mandrozsi_drive drive, uint16_t *board, size_t entries);
+
 /* Two drives on one board. They share board and list; each has its own record, with its own position and round number. `own` is the record of the
  * drive that a call is for, and comes back; `other` is that of the other drive as its last call returned it, and is only looked at. mandrozsi_open
  * and mandrozsi_read give the record that both drives start with, and mandrozsi_fetch is the same for both.
  *
  * Each call is that of one drive, with these differences. A change is made at once only where both records are at p = 1 and no order waits, and the
  * orders that wait are carried out by the slot call, of either drive, that finds both there. 1 and 3 are for either record, 2 goes by the larger C
- * and comes before 3, and unequal capacities are 3. Save is 4 where either drive is away from p = 1.
+ * and comes before 3, and unequal capacities are 3. Save and fresh are 4 where either drive is away from p = 1.
  *
  * Drives that run out of step may never both be at p = 1: then the orders wait on, and once 64 places are taken a change is 14. Hold the drive that
  * is first at p = 1 back until the other is there too. With one record in both places each call is that of one drive. */
@@ -149,6 +154,8 @@ mandrozsi_reply mandrozsi_pair_round(mandrozsi_drive own, mandrozsi_drive other,
 mandrozsi_reply mandrozsi_pair_report(mandrozsi_drive own, mandrozsi_drive other, const uint16_t *board, size_t entries, uint16_t name);
 mandrozsi_reply mandrozsi_pair_save(mandrozsi_drive own, mandrozsi_drive other, const uint16_t *board, size_t entries, uint8_t *output,
                                     size_t length);
+
+mandrozsi_reply mandrozsi_pair_fresh(mandrozsi_drive own, mandrozsi_drive other, uint16_t *board, size_t entries);
 
 /* Carries out a table of changes from the first entry to the last, each as the single call would, and writes each one's answer to its place; nothing
  * else of the table changes. A refused entry does not stop the rest. A kind that is neither 1 nor 2 is answered 7, whatever else is wrong. The record

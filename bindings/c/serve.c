@@ -20,7 +20,7 @@ enum { ROOM = 65536, MARKED = 64, MARK = 0xA5 };
 
 enum { OPEN, ADD, REMOVE, SLOT, ROUND, REPORT, SAVE, READ, FETCH };
 enum { PAIR_ADD = 9, PAIR_REMOVE, PAIR_SLOT, PAIR_ROUND, PAIR_REPORT, PAIR_SAVE, PAIR_BATCH, PAIR_SLOT_HERE };
-enum { WALK = 17 };
+enum { WALK = 17, FRESH, PAIR_FRESH };
 
 /* What is called, with what; the bytes of the three slices, 0 where the call has none; and the record, or the ticket in place of its round, and that
  * of the other drive. */
@@ -95,6 +95,8 @@ static mandrozsi_reply make(const struct call *c, uint16_t *board, uint64_t *lis
         said = mandrozsi_pair_slot_here(&drive, partner, board, entries, list, numbers);
         return (mandrozsi_reply){drive, said};
     case WALK: return (mandrozsi_reply){{0, 0, 0}, mandrozsi_walk(c->capacity, board, entries, names, length / sizeof *names)};
+    case FRESH: return mandrozsi_fresh(drive, board, entries);
+    case PAIR_FRESH: return mandrozsi_pair_fresh(drive, partner, board, entries);
     }
     end("there is no such call");
 }

@@ -56,7 +56,7 @@ pub enum Refusal {
     Short,
     /// p is 0 or above 2^k - 1; of two drives also: their capacities differ.
     Position,
-    /// p is not 1: a board is saved only at the start of a round, of two drives that of both.
+    /// p is not 1: a board is saved, or laid out afresh, only at the start of a round, of two drives that of both.
     Midround,
     /// The board is not good: two pieces of one name, or two idle ones, have equal size.
     Damaged,
@@ -307,6 +307,13 @@ impl Drive {
     /// refused entry does not stop the rest.
     pub fn batch(self, board: &mut [u16], list: &mut [u64], table: &mut [Entry]) {
         batch::carry_out(self, self, board, list, table)
+    }
+
+    /// Lays the board out afresh: as if every stream had been added to an opened board by falling weight, then rising name. What waits stays as it is.
+    /// Refused: 1 to 5.
+    pub fn fresh(self, board: &mut [u16]) -> Result<(), Refusal> {
+        let reply = unsafe { raw::mandrozsi_fresh(self, board.as_mut_ptr(), board.len()) };
+        reply.done().map(|_| ())
     }
 
     /// Serves the slot at the position, and moves the record on. At the start of a round the orders that wait are carried out first. Any board will

@@ -77,6 +77,13 @@ impl Pair {
         batch::carry_out(own, other, board, list, table)
     }
 
+    /// As [`Drive::fresh`], where both drives are at the start of a round. Refused: 1 to 5.
+    pub fn fresh(self, side: Side, board: &mut [u16]) -> Result<(), Refusal> {
+        let (own, other) = self.own(side);
+        let reply = unsafe { raw::mandrozsi_pair_fresh(own, other, board.as_mut_ptr(), board.len()) };
+        reply.done().map(|_| ())
+    }
+
     /// Serves a slot of one drive, and moves its record on. Refused: 1 to 3.
     pub fn slot(&mut self, side: Side, board: &mut [u16], list: &mut [u64]) -> Result<Slot, Refusal> {
         let ((own, other), entries, numbers) = (self.own(side), board.len(), list.len());

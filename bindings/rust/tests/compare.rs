@@ -100,6 +100,13 @@ impl Calls for Safe {
         }
         r.own
     }
+    fn fresh(&self, r: Records, board: &mut [u16]) -> Answer {
+        let result = match pair(r) {
+            None => drive(r.own).fresh(board),
+            Some((pair, side)) => pair.fresh(side, board),
+        };
+        told(r.own, result, |()| (r.own, [0; 4]))
+    }
     fn round(&self, r: Records, board: &[u16], output: &mut [u16]) -> Answer {
         let result = match pair(r) {
             None => drive(r.own).round(board, output),

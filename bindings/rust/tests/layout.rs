@@ -173,7 +173,7 @@ fn functions() {
     let code = code();
     let header = declared(&code, false);
     let rust = declared(include_str!("../src/raw.rs"), true);
-    assert_eq!(header.len(), 18);
+    assert_eq!(header.len(), 20);
     assert_eq!(header, rust);
     let alone: Vec<_> = header.iter().filter(|(back, ..)| *back == "said").map(|(_, name, _)| *name).collect();
     assert_eq!(alone, ["mandrozsi_fetch", "mandrozsi_pair_slot_here", "mandrozsi_walk"]);

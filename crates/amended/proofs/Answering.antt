@@ -10,6 +10,7 @@ use lib.Dec.{eqb, ltb}
 use lib.ListN.{length, drop}
 use borrow.Author.Tests.{eq-eqb, eqb-false}
 use Rattle.pieces.specs.Board.{good, weight, number}
+use Rattle.pieces.specs.Fresh.{fresh}
 use Rattle.calls.specs.declared.Drive.{Drive}
 use Rattle.calls.specs.declared.Refusal.{Refusal}
 use Rattle.calls.specs.declared.Refusal.the-variants.{Capacity, Short, Position, Midround, Damaged, Name, Weight, Taken, Absent, Room, Output, Block}
@@ -19,7 +20,7 @@ use Rattle.calls.specs.Refusals.{numberOf, firstOf, refuseIf, andThen, zeroOr, 
 use Rattle.calls.specs.Records.{driveAt}
 use Rattle.calls.specs.Answers.{numberBy, answered, beside}
 use Rattle.calls.specs.Results.{ifClear, roundNames, reportedSpacing}
-use Rattle.calls.proofs.Laws.{by-bool, refusal, Within, covers, first-next, first-within, then-within, if-within, part-within, other-number, change-parts, add-parts, remove-parts, round-answers, report-answers}
+use Rattle.calls.proofs.Laws.{by-bool, refusal, Within, covers, first-next, first-within, then-within, if-within, part-within, other-number, change-parts, add-parts, remove-parts, round-answers, report-answers, fresh-answers}
 use Rattle.sheets.specs.Sheet.{blocks, sheet, capacityIn, leavesIn, laid}
 use Rattle.sheets.specs.Results.{saveCheck, askedSheet, blockCheck, startCheck}
 use Rattle.sheets.proofs.Laws.{save-answers}
@@ -31,7 +32,7 @@ use Rattle.orders.specs.declared.Way.the-variants as way
 use Rattle.orders.specs.Checks.{longCheck, lentCheck, boundsCheck, readCheck, orderCheck, mustWait, wayBy, wayOf}
 use Rattle.orders.specs.Results.{addOrder, removeOrder, carriedAnswer, carriedBoard, changedAnswerBy, boardBy, listBy, servedBy, servedAnswerBy, boardThen, listThen}
 use Rattle.orders.proofs.Laws.{now-start}
-use Rattle.amended.specs.Deeds.{Deed, Opens, Reads, Adds, Removes, Slots, Rounds, Reports, Saves, Fetches, Desk, openChecks, readChecks, firstChecks, wayAt, answers}
+use Rattle.amended.specs.Deeds.{Deed, Opens, Reads, Adds, Removes, Slots, Rounds, Reports, Saves, Fetches, Refreshes, Desk, openChecks, readChecks, firstChecks, wayAt, answers}
 use Rattle.amended.specs.Refusing as refusing
 use Rattle.amended.specs.Refusing.{RefusedBy, mayAnswer, isDone, zeros, idleLeaves}
 
@@ -262,7 +263,7 @@ module _ (s : Desk) where
         first = now-start d B L o;
       }
 
-  -- ---- slot, round, report and save, by what their checks find
+  -- ---- slot, round, report, save and the fresh layout, by what their checks find
 
   pub slot-refused : (D F : List ℕ) (k : Check) → Within (mayAnswer Slots) k → eqb (numberBy k) 0 ≡ false
       → RefusedBy Slots s (servedAnswerBy k d D) (servedBy k d D .drive) (ifClear k D B) (ifClear k F L) []
@@ -314,6 +315,19 @@ module _ (s : Desk) where
     list = λ q. refl;
     output = refl;
     values = zeros-say (mayAnswer (Saves O)) (numberOf r) 0 (idleLeaves s) (0 ∷ []) m refl refl refl;
+  }
+
+  pub fresh-refused : (D : List ℕ) (k : Check) → Within (mayAnswer Refreshes) k → eqb (numberBy k) 0 ≡ false
+      → RefusedBy Refreshes s (answered k []) d (ifClear k D B) L []
+  unfolding zeroOr
+  fresh-refused D Clear m h = clash refl h
+  fresh-refused D (Refused r) m h = record {
+    number = m;
+    record' = refl;
+    board = refl;
+    list = λ q. refl;
+    output = refl;
+    values = zeros-say (mayAnswer Refreshes) (numberOf r) 0 (idleLeaves s) [] m refl refl refl;
   }
 
 -- ---- fetch
@@ -372,3 +386,7 @@ demand-1-amended (Saves O) s h =
     let B = s .state .board in
     save-refused s O (sheet (d .capacity) B ++ drop (512 * blocks (d .capacity)) O) (512 * blocks (d .capacity)) (saveCheck d B (length O)) (save-answers d B O) h
 demand-1-amended (Fetches t) s h = fetch-refused t s h
+demand-1-amended Refreshes s h =
+    let d = s .state .drive in
+    let B = s .state .board in
+    fresh-refused s (fresh (d .capacity) B) (changeCheck d B) (fresh-answers d B) h

@@ -18,7 +18,7 @@ use Rattle.calls.proofs.Laws.{by-bool, Within, covers, if-within, part-within, 
 use Rattle.sheets.specs.Sheet.{blocks}
 use Rattle.sheets.specs.Results.{saveMay, saveCheck}
 use Rattle.sheets.proofs.Laws.{save-ascending}
-use Rattle.demands.specs.Histories.{Add, Remove, Round, Report, State}
+use Rattle.demands.specs.Histories.{Add, Remove, Round, Report, Fresh, State}
 use Rattle.demands.specs.Holdings.{Stream}
 use Rattle.demands.proofs.Laws.{Sound, never-damaged}
 use Rattle.waiting.specs.declared.Order.{Order}
@@ -28,7 +28,7 @@ use Rattle.orders.specs.declared.Way.the-variants as way
 use Rattle.orders.specs.Checks.{orderCheck, mustWait, wayOf}
 use Rattle.orders.specs.Results.{addOrder, removeOrder, takenAnswer, changedAnswerBy}
 use Rattle.orders.proofs.Laws.{now-start}
-use Rattle.amended.specs.Deeds.{Deed, Opens, Reads, Adds, Removes, Slots, Rounds, Reports, Saves, Fetches, Desk, firstChecks, wayAt, answers}
+use Rattle.amended.specs.Deeds.{Deed, Opens, Reads, Adds, Removes, Slots, Rounds, Reports, Saves, Fetches, Refreshes, Desk, firstChecks, wayAt, answers}
 use Rattle.amended.specs.Refusing.{ofBoard}
 use Rattle.amended.proofs.Carrying.{add-says, remove-says}
 use Rattle.amended.proofs.Sounding.{Standing}
@@ -105,3 +105,4 @@ module _ (hs : List Stream) (s : Desk) (is : Standing hs s) where
       let q = askedOutput (s .state .drive) (s .state .board) (length O) (512 * blocks (s .state .drive .capacity)) in
       save-not (firstOf saveMay q) q refl (ap not fine) h
   undamaged (Fetches t) o h = clash o refl
+  undamaged Refreshes o h = never-damaged (s .state) hs (is .sound) Fresh h

@@ -7,7 +7,7 @@ use mathlib.Core.List.{List, [], _∷_}
 use Prim.Native.Nat.{ℕ, zero, _+_, _-_, _*_, _≤_, _<_}
 use native.Mathlib.Omega.{arith}
 use lib.Count.{ones}
-use lib.Dec.{ltb}
+use lib.Dec.{eqb, ltb}
 use lib.ListN.{length, getD, replicate}
 use Rattle.pieces.specs.Board.{weight, number}
 use Rattle.calls.specs.declared.Check.the-variants.{Clear}
@@ -18,6 +18,7 @@ use Rattle.demands.specs.Refusing.{otherChecks}
 use Rattle.demands.specs.Holdings.{Stream, heldFrom, heldOf, total}
 use Rattle.demands.specs.Rounds.{times, inARow, Near, bound, demanded}
 use Rattle.demands.specs.Stretches.{PowerOfTwo, PowerFair, StillFair}
+use Rattle.demands.proofs.Laws.{same-either, fresh-passes, fresh-equal, fresh-rounds}
 use Rattle.waiting.specs.declared.Order.{Order}
 use Rattle.waiting.specs.Layout.{lastTicket, placesIn, waiting}
 use Rattle.waiting.specs.Meaning.{InOrder}
@@ -25,9 +26,9 @@ use Rattle.waiting.proofs.Laws.{free-in-order}
 use Rattle.orders.specs.declared.Way.the-variants as way
 use Rattle.orders.specs.Results.{addOrder, removeOrder, boardThen}
 use Rattle.amended.specs.Carried.{actsOf, inTurn}
-use Rattle.amended.specs.Deeds.{Deed, Adds, Removes, Slots, Fetches, Desk, wayAt, answers, leaves, leavesAll, restarts, plain, namesServed, FullRound, ticketsTold, CountUp}
+use Rattle.amended.specs.Deeds.{Deed, Adds, Removes, Slots, Fetches, Refreshes, Desk, wayAt, answers, leaves, leavesAll, restarts, plain, namesServed, FullRound, ticketsTold, CountUp}
 use Rattle.amended.specs.Fates.{Waits, toldOf, fateThrough}
-use Rattle.amended.specs.Holding.{onBoard, heldThrough, heldThen, Ready}
+use Rattle.amended.specs.Holding.{onBoard, heldNext, heldThrough, heldThen, Ready}
 use Rattle.amended.specs.Refusing.{ofBoard}
 use Rattle.amended.specs.Stretches.{Still}
 use Rattle.amended.proofs.Carrying.{add-says}
@@ -149,6 +150,17 @@ module _ (s : Desk) (ready : Ready s) (deeds : List Deed) where
   unfolding actsOf after
   amended-at-once x w e = add-made desk' x w e ∙ sym (add-says (desk' .state) x w)
 
+  -- ---- Request No. 12: a fresh layout
+
+  -- At the start of a round it is done at once, whether orders wait or not; the list stays as it is,
+  pub amended-fresh : desk' .state .drive .position ≡ 1 → (answers Refreshes desk' .number ≡ 0) × (leaves Refreshes desk' .list ≡ desk' .list)
+  amended-fresh start = (rw (fresh-passes (desk' .state) held' (st .sound) start) refl, refl)
+
+  -- and what is held too, so that all of this goes on after it.
+  pub amended-fresh-held : heldNext held' Refreshes desk' ≡ held'
+  unfolding heldFrom log
+  amended-fresh-held = same-either (eqb (answers Refreshes desk' .number) 0) held'
+
   -- ---- rounds
 
   -- At the start of a round the next C slots are a full round.
@@ -210,3 +222,22 @@ module _ (s : Desk) (ready : Ready s) (deeds : List Deed) where
 
     pub amended-still-then : StillFair C (heldThen held' desk') (namesServed desk' (Slots ∷ rest))
     amended-still-then = fair-then held' desk' st rest still
+
+-- Two desks that hold the same come by it to equal leaves and to equal rounds, whatever calls were made at them.
+module _ (s s′ : Desk) (ready : Ready s) (ready′ : Ready s′) (deeds deeds′ : List Deed) (same : (x : ℕ) → (x ≡ 0 → ⊥) → heldOf x (held' s ready deeds) ≡ heldOf x (held' s′ ready′ deeds′))
+    (size : leavesAll s deeds .state .drive .capacity ≡ leavesAll s′ deeds′ .state .drive .capacity)
+    (start : leavesAll s deeds .state .drive .position ≡ 1) (start′ : leavesAll s′ deeds′ .state .drive .position ≡ 1) where
+  abbrev one : Desk
+  one = leavesAll s deeds
+
+  abbrev two : Desk
+  two = leavesAll s′ deeds′
+
+  pub amended-fresh-equal : (i : ℕ) → i < one .state .drive .capacity → getD (leaves Refreshes one .state .board) i 0 ≡ getD (leaves Refreshes two .state .board) i 0
+  amended-fresh-equal =
+      fresh-equal (one .state) (two .state) (held' s ready deeds) (held' s′ ready′ deeds′) (standing s ready deeds .sound) (standing s′ ready′ deeds′ .sound) size start start′ same
+
+  pub amended-fresh-rounds :
+      roundNames (one .state .drive .capacity) (leaves Refreshes one .state .board) ≡ roundNames (one .state .drive .capacity) (leaves Refreshes two .state .board)
+  amended-fresh-rounds =
+      fresh-rounds (one .state) (two .state) (held' s ready deeds) (held' s′ ready′ deeds′) (standing s ready deeds .sound) (standing s′ ready′ deeds′ .sound) size start start′ same

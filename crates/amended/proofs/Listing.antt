@@ -30,7 +30,7 @@ use Rattle.orders.specs.Results.{addOrder, removeOrder, carriedAnswer, doing, s
 use Rattle.orders.proofs.Laws.{kept-says}
 use Rattle.amended.specs.Histories.{through, along, following}
 use Rattle.amended.specs.Carried.{inTurn}
-use Rattle.amended.specs.Deeds.{Deed, Opens, Reads, Adds, Removes, Slots, Rounds, Reports, Saves, Fetches, Desk, openChecks, readChecks, firstChecks, wayAt, answers, leaves, leavesAll, listAfter, isClear, runs, ticketIn, ticketTold, ticketsTold, CountUp}
+use Rattle.amended.specs.Deeds.{Deed, Opens, Reads, Adds, Removes, Slots, Rounds, Reports, Saves, Fetches, Refreshes, Desk, openChecks, readChecks, firstChecks, wayAt, answers, leaves, leavesAll, listAfter, isClear, runs, ticketIn, ticketTold, ticketsTold, CountUp}
 use Rattle.amended.specs.Fates.{Fate, Waits, Answered, Gone, toldOf, ran, handedOut, fateNext, fateThrough}
 use Rattle.amended.proofs.Carrying.{turn-says}
 use Rattle.amended.proofs.Sounding.{list-length}
@@ -65,6 +65,7 @@ in-order-next Slots s is =
 in-order-next (Rounds O) s is = is
 in-order-next (Reports x) s is = is
 in-order-next (Saves O) s is = is
+in-order-next Refreshes s is = is
 in-order-next (Fetches t) s is = fetch-in-order (s .list) is t
 
 pub in-order : (s : Desk) → InOrder (s .list) → (deeds : List Deed) → InOrder (leavesAll s deeds .list)
@@ -133,6 +134,7 @@ count-next Slots s ts l c =
 count-next (Rounds O) s ts l c = c
 count-next (Reports x) s ts l c = c
 count-next (Saves O) s ts l c = c
+count-next Refreshes s ts l c = c
 count-next (Fetches t) s ts l c = rw (fetch-last (s .list) l t) at c
 
 -- The tickets that calls tell count up from the list's last.
@@ -236,6 +238,7 @@ module _ (t : ℕ) (o : Order) (ahead : List Order) where
   follows-next ψ (Rounds O) s f = still ψ s (leaves (Rounds O) s) refl f
   follows-next ψ (Reports x) s f = still ψ s (leaves (Reports x) s) refl f
   follows-next ψ (Saves O) s f = still ψ s (leaves (Saves O) s) refl f
+  follows-next ψ Refreshes s f = still ψ s (leaves Refreshes s) refl f
   follows-next ψ (Fetches u) s f = fetch-follows ψ s u f
 
   -- what a fetch of its ticket says

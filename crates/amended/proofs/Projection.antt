@@ -26,7 +26,7 @@ use Rattle.orders.specs.declared.Way.the-variants as way
 use Rattle.orders.specs.Results.{addOrder, removeOrder, carriedBoard, ranBoard, boardBy, boardThen}
 use Rattle.orders.proofs.Laws.{then-slot}
 use Rattle.amended.specs.Carried.{actOf, actsOf}
-use Rattle.amended.specs.Deeds.{Deed, Opens, Reads, Adds, Removes, Slots, Rounds, Reports, Saves, Fetches, Desk, openChecks, readChecks, firstChecks, wayAt, answers, leaves, leavesAll, isClear, restarts, Unbroken, due, madeBy, servedBy, standsFor, plain, nameServed, namesServed}
+use Rattle.amended.specs.Deeds.{Deed, Opens, Reads, Adds, Removes, Slots, Rounds, Reports, Saves, Fetches, Refreshes, Desk, openChecks, readChecks, firstChecks, wayAt, answers, leaves, leavesAll, isClear, restarts, Unbroken, due, madeBy, servedBy, standsFor, plain, nameServed, namesServed}
 use Rattle.amended.proofs.Carrying.{carry-one, carry-all, act-names, acts-names, add-says}
 use Rattle.amended.proofs.Projecting as projecting
 
@@ -79,6 +79,7 @@ projected-one (Rounds O) s e = refl
 projected-one (Reports x) s e = refl
 projected-one (Saves O) s e = refl
 projected-one (Fetches t) s e = refl
+projected-one Refreshes s e = refl
 
 -- The record and the board after any calls with the list are those after the plain calls that they stand for.
 pub projected : (s : Desk) (rest : List Deed) → Unbroken s rest → leavesAll s rest .state ≡ after (s .state) (plain s rest)
@@ -115,6 +116,7 @@ names-one (Rounds O) s e = refl
 names-one (Reports x) s e = refl
 names-one (Saves O) s e = refl
 names-one (Fetches t) s e = refl
+names-one Refreshes s e = refl
 
 -- The names that the slots of calls with the list serve are those that the plain calls serve.
 pub names-same : (s : Desk) (rest : List Deed) → Unbroken s rest → namesServed s rest ≡ names (log (s .state) (plain s rest))

@@ -7,9 +7,10 @@ use Rattle.calls.specs.declared.Drive.{Drive}
 use Rattle.calls.specs.declared.Opened.{Opened}
 use Rattle.calls.specs.declared.Served.{Served}
 use Rattle.calls.specs.declared.Rounded.{Rounded}
+use Rattle.calls.specs.declared.Refreshed.{Refreshed}
 use Rattle.calls.specs.declared.Reported.{Reported}
-use Rattle.calls.specs.Answers.{openingAnswer, servingAnswer, roundingAnswer, reportAnswer}
-use Rattle.calls.specs.Promises.{Rounds, Reports}
+use Rattle.calls.specs.Answers.{openingAnswer, servingAnswer, roundingAnswer, refreshingAnswer, reportAnswer}
+use Rattle.calls.specs.Promises.{Rounds, Reports, Refreshes}
 use Rattle.sheets.specs.declared.Saved.{Saved}
 use Rattle.sheets.specs.declared.Loaded.{Loaded}
 use Rattle.sheets.specs.Results.{savingAnswer, loadingAnswer}
@@ -64,3 +65,7 @@ module _ (d : Drive) (B L : List ℕ) where
   pub fetch-kept : (t : ℕ) {r : Fetching} {F : List ℕ} → Fetches L t r F
       → (fetchingAnswer r ≡ answers (deeds.Fetches t) (desk d B L)) × (F ≡ listAfter (deeds.Fetches t) (desk d B L))
   fetch-kept t p = (ap fetchingAnswer (p .0), p .1)
+
+  pub fresh-kept : {r : Refreshed} {E : List ℕ} → Refreshes d B r E
+      → (refreshingAnswer (r .answer) ≡ answers deeds.Refreshes (desk d B L)) × (r .drive ≡ returned deeds.Refreshes (desk d B L)) × (E ≡ boardAfter deeds.Refreshes (desk d B L))
+  fresh-kept p = (p .1, ap (λ (r : Refreshed). r .drive) (p .0), p .2)

@@ -15,9 +15,9 @@ use Rattle.calls.specs.declared.Check.the-variants.{Clear, Refused}
 use Rattle.calls.specs.Results.{ifClear}
 use Rattle.calls.proofs.Laws.{by-bool}
 use Rattle.calls.specs.Answers.{Answer}
-use Rattle.demands.specs.Histories.{Act, Add, Remove, Slot, Round, Report, State, says, after, log}
+use Rattle.demands.specs.Histories.{Act, Add, Remove, Slot, Round, Report, Fresh, State, says, after, log}
 use Rattle.demands.specs.Holdings.{Stream, changed, heldFrom}
-use Rattle.demands.proofs.Laws.{stateAt, Sound, reached, moves, held-append}
+use Rattle.demands.proofs.Laws.{stateAt, Sound, reached, moves, same-either, held-append}
 use Rattle.waiting.specs.declared.Order.{Order}
 use Rattle.waiting.specs.Layout.{tooShort}
 use Rattle.orders.specs.Results.{addOrder, removeOrder, carriedAnswer, carriedBoard}
@@ -27,10 +27,10 @@ use Rattle.drives.proofs.Laws.{pair-clear, pair-vouch, answer-alike, board-alik
 use Rattle.amended.specs.Histories.{along, following, Each}
 use Rattle.amended.specs.Carried.{actOf, actsOf}
 use Rattle.amended.specs.Deeds as one
-use Rattle.amended.specs.Deeds.{Deed, Opens, Reads, Adds, Removes, Slots, Rounds, Reports, Saves, Fetches, openChecks, readChecks}
+use Rattle.amended.specs.Deeds.{Deed, Opens, Reads, Adds, Removes, Slots, Rounds, Reports, Saves, Fetches, Refreshes, openChecks, readChecks}
 use Rattle.amended.specs.Holding as holding
 use Rattle.amended.specs.Holding.{onLeaves, onBoard}
-use Rattle.amended.specs.Turns.{Pair, exchanged, seen, shown, firstChecks, lookChecks, wayAt, listAfter, leavesOwn, Turn, Own, Other, leaves, leavesAll, turnedAll, restarts, Unbroken, carriesOut, alone, standsFor, plain}
+use Rattle.amended.specs.Turns.{Pair, exchanged, seen, shown, firstChecks, lookChecks, wayAt, listAfter, leavesOwn, Turn, Own, Other, leaves, leavesAll, turnedAll, restarts, Unbroken, carriesOut, laysOut, shared, alone, standsFor, plain}
 use Rattle.amended.specs.Sharing.{heldOwn, heldNext, heldThrough, Ready}
 use Rattle.amended.proofs.Carrying.{carry-one}
 use Rattle.amended.proofs.Projection.{is-clear}
@@ -41,13 +41,9 @@ use Rattle.amended.proofs.Turning.{carries-alike, projected-one}
 
 -- ---- the acts of one drive alone change nothing that is held
 
-cond-same : (t : Bool) (hs : List Stream) → cond t hs hs ≡ hs
-cond-same true hs = refl
-cond-same false hs = refl
-
 look-held : (hs : List Stream) (u : State) (x : Act) (k : Check) → changed x hs ≡ hs → heldFrom hs (log u (ifClear k (x ∷ []) [])) ≡ hs
 unfolding heldFrom log
-look-held hs u x Clear e = rw e (cond-same (eqb (says x u .number) 0) hs)
+look-held hs u x Clear e = rw e (same-either (eqb (says x u .number) 0) hs)
 look-held hs u x (Refused r) e = refl
 
 alone-held : (hs : List Stream) (u : State) (a : Deed) (s : Pair) → heldFrom hs (log u (alone a s)) ≡ hs
@@ -61,6 +57,7 @@ alone-held hs u (Rounds O) s = look-held hs u (Round O) (lookChecks s) refl
 alone-held hs u (Reports x) s = look-held hs u (Report x) (lookChecks s) refl
 alone-held hs u (Saves O) s = refl
 alone-held hs u (Fetches t) s = refl
+alone-held hs u Refreshes s = refl
 
 -- ---- the acts of both are answered alike
 
@@ -101,16 +98,27 @@ carries-held hs a s =
     carries-alike (λ (d : Drive) (os : List Order). heldFrom hs (log (stateAt d (s .board)) (actsOf os))) (none-held (s .board) hs)
     (λ c d ec ep os. held-alike c d ec ep (s .board) hs os) a s
 
+-- so are all the acts of both: a fresh layout changes nothing that is held
+shared-held : (hs : List Stream) (a : Deed) (s : Pair) → heldFrom hs (log (shown s) (shared a s)) ≡ heldFrom hs (log (shown (exchanged s)) (shared a s))
+unfolding heldFrom log
+shared-held hs a s = by-bool (laysOut a s)
+    (λ t. rw t (same-either (eqb (says Fresh (shown s) .number) 0) hs ∙ sym (same-either (eqb (says Fresh (shown (exchanged s)) .number) 0) hs)))
+    (λ f. rw f (carries-held hs a s))
+
+pub fresh-held : (hs : List Stream) (s : Pair) → heldOwn hs Refreshes s ≡ hs
+unfolding heldFrom log actsOf
+fresh-held hs s = by-bool (laysOut Refreshes s) (λ t. rw t (same-either (eqb (says Fresh (shown s) .number) 0) hs)) (λ f. rw f refl)
+
 -- ---- what is held is what either drive's plain history holds
 
-own-held : (hs : List Stream) (a : Deed) (s : Pair) → heldFrom hs (log (shown s) (standsFor (Own a) s)) ≡ heldFrom hs (log (shown s) (actsOf (carriesOut a s)))
+own-held : (hs : List Stream) (a : Deed) (s : Pair) → heldFrom hs (log (shown s) (standsFor (Own a) s)) ≡ heldFrom hs (log (shown s) (shared a s))
 own-held hs a s =
-    held-append hs (shown s) (actsOf (carriesOut a s)) (alone a s)
-    ∙ alone-held (heldFrom hs (log (shown s) (actsOf (carriesOut a s)))) (after (shown s) (actsOf (carriesOut a s))) a s
+    held-append hs (shown s) (shared a s) (alone a s)
+    ∙ alone-held (heldFrom hs (log (shown s) (shared a s))) (after (shown s) (shared a s)) a s
 
 held-one : (hs : List Stream) (t : Turn) (s : Pair) → restarts t s ≡ false → heldNext hs t s ≡ heldFrom hs (log (shown s) (standsFor t s))
 held-one hs (Own a) s e = rw e (sym (own-held hs a s))
-held-one hs (Other a) s e = rw e (carries-held hs a (exchanged s))
+held-one hs (Other a) s e = rw e (shared-held hs a (exchanged s))
 
 pub held-plain : (hs : List Stream) (s : Pair) (turns : List Turn) → Unbroken s turns → heldThrough hs s turns ≡ heldFrom hs (log (shown s) (plain s turns))
 unfolding following along Each heldFrom log
@@ -139,6 +147,7 @@ list-length Slots s = by-check (firstChecks s) (listThen (s .own) (s .other) (s 
 list-length (Rounds O) s = refl
 list-length (Reports x) s = refl
 list-length (Saves O) s = refl
+list-length Refreshes s = refl
 list-length (Fetches t) s = sounding.list-length (Fetches t) (seen s)
 
 -- ---- what is held stands on the board, for each drive
@@ -164,6 +173,7 @@ both-given (Rounds O) s e = let z : _≡_ {A = ℕ} 0 1 = cc in absurd (omega ar
 both-given (Reports x) s e = let z : _≡_ {A = ℕ} 0 1 = cc in absurd (omega arith)
 both-given (Saves O) s e = let z : _≡_ {A = ℕ} 0 1 = cc in absurd (omega arith)
 both-given (Fetches t) s e = let z : _≡_ {A = ℕ} 0 1 = cc in absurd (omega arith)
+both-given Refreshes s e = let z : _≡_ {A = ℕ} 0 1 = cc in absurd (omega arith)
 
 restart-seen : (a : Deed) (s : Pair) → 259 ≤ length (s .list) → one.restarts a (seen s) ≡ true → holding.Ready (seen (leavesOwn a s))
 restart-seen (Opens C) s l e = restart-ready (Opens C) (seen s) l e
@@ -175,6 +185,7 @@ restart-seen (Rounds O) s l e = let z : _≡_ {A = ℕ} 0 1 = cc in absurd (omeg
 restart-seen (Reports x) s l e = let z : _≡_ {A = ℕ} 0 1 = cc in absurd (omega arith)
 restart-seen (Saves O) s l e = let z : _≡_ {A = ℕ} 0 1 = cc in absurd (omega arith)
 restart-seen (Fetches t) s l e = let z : _≡_ {A = ℕ} 0 1 = cc in absurd (omega arith)
+restart-seen Refreshes s l e = let z : _≡_ {A = ℕ} 0 1 = cc in absurd (omega arith)
 
 -- a call that begins anew
 pub restart-standing : (a : Deed) (s : Pair) → 259 ≤ length (s .list) → one.restarts a (seen s) ≡ true → Standing (onBoard (shown (leavesOwn a s))) (leavesOwn a s)
@@ -190,17 +201,17 @@ restart-standing a s long e =
 
 module _ (hs : List Stream) (s : Pair) (is : Standing hs s) where
   -- a call that goes on: it is plain calls of both
-  on-standing : (a : Deed) → one.restarts a (seen s) ≡ false → Standing (heldFrom hs (log (shown s) (actsOf (carriesOut a s)))) (leavesOwn a s)
+  on-standing : (a : Deed) → one.restarts a (seen s) ≡ false → Standing (heldFrom hs (log (shown s) (shared a s))) (leavesOwn a s)
   on-standing a e =
       let x = projected-one (Own a) s e in
       let y = projected-one (Other a) (exchanged s) e in
       record {
-        own = subst (λ (u : State). Sound u (heldFrom hs (log (shown s) (actsOf (carriesOut a s))))) (sym x)
+        own = subst (λ (u : State). Sound u (heldFrom hs (log (shown s) (shared a s)))) (sym x)
             (subst (Sound (after (shown s) (standsFor (Own a) s))) (own-held hs a s) (reached (shown s) hs (is .own) (standsFor (Own a) s)));
-        other = subst (λ (u : State). Sound u (heldFrom hs (log (shown s) (actsOf (carriesOut a s))))) (sym y)
-            (subst (Sound (after (shown (exchanged s)) (actsOf (carriesOut a s)))) (sym (carries-held hs a s)) (reached (shown (exchanged s)) hs (is .other) (actsOf (carriesOut a s))));
+        other = subst (λ (u : State). Sound u (heldFrom hs (log (shown s) (shared a s)))) (sym y)
+            (subst (Sound (after (shown (exchanged s)) (shared a s))) (sym (shared-held hs a s)) (reached (shown (exchanged s)) hs (is .other) (shared a s)));
         same = ap (λ (u : State). u .drive .capacity) x ∙ moves (shown s) (standsFor (Own a) s) .0 ∙ is .same
-            ∙ sym (ap (λ (u : State). u .drive .capacity) y ∙ moves (shown (exchanged s)) (actsOf (carriesOut a s)) .0);
+            ∙ sym (ap (λ (u : State). u .drive .capacity) y ∙ moves (shown (exchanged s)) (shared a s) .0);
         long = let n = list-length a s in let l = is .long in omega arith;
       }
 

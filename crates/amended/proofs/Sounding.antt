@@ -32,7 +32,7 @@ use Rattle.orders.specs.declared.Way.{Way}
 use Rattle.orders.specs.declared.Way.the-variants as way
 use Rattle.orders.specs.Results.{addOrder, removeOrder, doing, saying, listBy, ranList, listIf, listThen}
 use Rattle.orders.proofs.Laws.{lent-open, read-accepts}
-use Rattle.amended.specs.Deeds.{Deed, Opens, Reads, Adds, Removes, Slots, Rounds, Reports, Saves, Fetches, Desk, openChecks, readChecks, firstChecks, wayAt, leaves, leavesAll, listAfter, restarts, standsFor}
+use Rattle.amended.specs.Deeds.{Deed, Opens, Reads, Adds, Removes, Slots, Rounds, Reports, Saves, Fetches, Refreshes, Desk, openChecks, readChecks, firstChecks, wayAt, leaves, leavesAll, listAfter, restarts, standsFor}
 use Rattle.amended.specs.Holding.{onLeaves, onBoard, heldNext, heldThrough, Ready}
 use Rattle.amended.proofs.Projection.{is-clear, projected-one}
 use Rattle.amended.proofs.Projecting as projecting
@@ -99,6 +99,7 @@ list-length Slots s = by-check (firstChecks s) (listThen (s .state .drive) (s .s
 list-length (Rounds O) s = refl
 list-length (Reports x) s = refl
 list-length (Saves O) s = refl
+list-length Refreshes s = refl
 list-length (Fetches t) s = fetch-length (s .list) t
 
 -- ---- an open or a read that is done leaves a desk to begin with
@@ -133,6 +134,7 @@ restart-ready (Removes x) s l e = let z : _≡_ {A = ℕ} 0 1 = cc in absurd (om
 restart-ready Slots s l e = let z : _≡_ {A = ℕ} 0 1 = cc in absurd (omega arith)
 restart-ready (Rounds O) s l e = let z : _≡_ {A = ℕ} 0 1 = cc in absurd (omega arith)
 restart-ready (Reports x) s l e = let z : _≡_ {A = ℕ} 0 1 = cc in absurd (omega arith)
+restart-ready Refreshes s l e = let z : _≡_ {A = ℕ} 0 1 = cc in absurd (omega arith)
 restart-ready (Saves O) s l e = let z : _≡_ {A = ℕ} 0 1 = cc in absurd (omega arith)
 restart-ready (Fetches t) s l e = let z : _≡_ {A = ℕ} 0 1 = cc in absurd (omega arith)
 

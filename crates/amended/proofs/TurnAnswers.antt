@@ -8,27 +8,28 @@ use Prim.Native.Nat.{ℕ, _*_}
 use native.Mathlib.Omega.{arith}
 use lib.ListN.{length, drop}
 use Rattle.pieces.specs.Board.{weight, number}
+use Rattle.pieces.specs.Fresh.{fresh}
 use Rattle.calls.specs.Refusals.{zeroOr, among, firstOf, askedOutput}
 use Rattle.calls.specs.Answers.{numberBy}
 use Rattle.calls.specs.Results.{roundNames, reportedSpacing}
 use Rattle.calls.proofs.Laws.{by-bool, Within, covers, part-within}
 use Rattle.sheets.specs.Sheet.{blocks, sheet}
 use Rattle.sheets.specs.Results.{saveMay, saveCheck}
-use Rattle.demands.specs.Histories.{Round, Report}
+use Rattle.demands.specs.Histories.{Round, Report, Fresh}
 use Rattle.demands.specs.Holdings.{Stream}
 use Rattle.demands.proofs.Laws.{never-damaged}
 use Rattle.waiting.specs.declared.Order.{Order}
 use Rattle.waiting.specs.Layout.{tooShort}
 use Rattle.orders.specs.Checks.{orderCheck, waitsIf}
 use Rattle.orders.specs.Results.{addOrder, removeOrder}
-use Rattle.drives.specs.Checks.{bothStart, wayOf, startCheck, pairRoundCheck, pairReportCheck, pairSaveCheck}
+use Rattle.drives.specs.Checks.{bothStart, wayOf, startCheck, pairRoundCheck, pairReportCheck, pairSaveCheck, pairFreshCheck}
 use Rattle.drives.specs.Results.{boardThen, listThen}
-use Rattle.drives.proofs.Laws.{pair-within, now-both, slot-answers, round-answers, report-answers, save-answers}
-use Rattle.amended.specs.Deeds.{Deed, Opens, Reads, Adds, Removes, Slots, Rounds, Reports, Saves, Fetches}
+use Rattle.drives.proofs.Laws.{pair-within, now-both, slot-answers, round-answers, report-answers, save-answers, fresh-answers}
+use Rattle.amended.specs.Deeds.{Deed, Opens, Reads, Adds, Removes, Slots, Rounds, Reports, Saves, Fetches, Refreshes}
 use Rattle.amended.specs.Refusing.{ofBoard}
-use Rattle.amended.specs.Turns.{Pair, seen, shown, firstChecks, wayAt, answersOwn}
+use Rattle.amended.specs.Turns.{Pair, seen, shown, firstChecks, freshChecks, wayAt, answersOwn}
 use Rattle.amended.specs.Sharing.{isDone, Refused}
-use Rattle.amended.proofs.Answering.{clash, TakenBy, firsts, removeFirsts, lent-within, order-within, remove-order-within, way-within, add-refused, remove-refused, slot-refused, round-refused, report-refused, save-refused, demand-1-amended}
+use Rattle.amended.proofs.Answering.{clash, TakenBy, firsts, removeFirsts, lent-within, order-within, remove-order-within, way-within, add-refused, remove-refused, slot-refused, round-refused, report-refused, save-refused, fresh-refused, demand-1-amended}
 use Rattle.amended.proofs.Damaging.{fines, not-five, fine-within, save-not, add-not, remove-not}
 use Rattle.amended.proofs.Sharing.{Standing}
 use Rattle.amended.proofs.TurnRounds.{look-clear, slot-served}
@@ -84,6 +85,7 @@ demand-1-two (Saves O) s h =
     save-refused (seen s) O (sheet C (s .board) ++ drop (512 * blocks C) O) (512 * blocks C) (pairSaveCheck (s .own) (s .other) (s .board) (length O))
     (save-answers (s .own) (s .other) (s .board) O) h
 demand-1-two (Fetches t) s h = demand-1-amended (Fetches t) (seen s) h
+demand-1-two Refreshes s h = fresh-refused (seen s) (fresh (s .own .capacity) (s .board)) (freshChecks s) (fresh-answers (s .own) (s .other) (s .board)) h
 
 -- ---- no DAMAGED
 
@@ -104,6 +106,15 @@ module _ (hs : List Stream) (s : Pair) (is : Standing hs s) where
       (λ t. save-not (firstOf saveMay q) q refl (ap not (is .own .fine)) (rw (look, t) at h))
       (λ f. let z = rw (look, f) at h in omega arith)
 
+  -- so does the fresh layout's
+  fresh-undamaged : numberBy (freshChecks s) ≡ 5 → ⊥
+  unfolding pairFreshCheck startCheck
+  fresh-undamaged h =
+      let look = look-clear hs s is in
+      by-bool (bothStart (s .own) (s .other))
+      (λ t. never-damaged (shown s) hs (is .own) Fresh (rw (look, t) at h))
+      (λ f. let z = rw (look, f) at h in omega arith)
+
   pub undamaged : (a : Deed) → ofBoard a ≡ true → answersOwn a s .number ≡ 5 → ⊥
   unfolding zeroOr pairRoundCheck pairReportCheck
   undamaged (Opens C) o h = not-five (1 ∷ 2 ∷ []) (answersOwn (Opens C) s .number) (lent-within C (s .board) (length (s .list))) refl h
@@ -115,3 +126,4 @@ module _ (hs : List Stream) (s : Pair) (is : Standing hs s) where
   undamaged (Reports x) o h = never-damaged (shown s) hs (is .own) (Report x) (rw (look-clear hs s is) at h)
   undamaged (Saves O) o h = save-undamaged O h
   undamaged (Fetches t) o h = clash o refl
+  undamaged Refreshes o h = fresh-undamaged h

@@ -15,7 +15,7 @@ use Rattle.orders.specs.Results.{addOrder, removeOrder}
 use Rattle.drives.specs.Checks.{bothStart}
 use Rattle.drives.specs.Results.{listThen}
 use Rattle.amended.specs.Histories.{along}
-use Rattle.amended.specs.Deeds.{Deed, Opens, Reads, Adds, Removes, Slots, Rounds, Reports, Saves, Fetches, CountUp}
+use Rattle.amended.specs.Deeds.{Deed, Opens, Reads, Adds, Removes, Slots, Rounds, Reports, Saves, Fetches, Refreshes, CountUp}
 use Rattle.amended.specs.Fates.{Fate, toldOf}
 use Rattle.amended.specs.Turns.{Pair, exchanged, seen, firstChecks, wayAt, answersOwn, listAfter, leavesOwn, Turn, Own, Other, answers, leaves, leavesAll, ticketOwn, ticketTold, ticketsTold}
 use Rattle.amended.specs.Sharing.{fateOwn, fateNext, fateThrough}
@@ -41,6 +41,7 @@ own-in-order Slots s is = check-in-order (firstChecks s) (ranListOf s) (s .list)
 own-in-order (Rounds O) s is = is
 own-in-order (Reports x) s is = is
 own-in-order (Saves O) s is = is
+own-in-order Refreshes s is = is
 own-in-order (Fetches t) s is = one.in-order-next (Fetches t) (seen s) is
 
 in-order-next : (t : Turn) (s : Pair) → InOrder (s .list) → InOrder (leaves t s .list)
@@ -66,6 +67,7 @@ own-count Slots s ts l c = check-count (firstChecks s) (ranListOf s) (s .list) t
 own-count (Rounds O) s ts l c = c
 own-count (Reports x) s ts l c = c
 own-count (Saves O) s ts l c = c
+own-count Refreshes s ts l c = c
 own-count (Fetches t) s ts l c = one.count-next (Fetches t) (seen s) ts l c
 
 count-next : (t : Turn) (s : Pair) (ts : List ℕ) → 259 ≤ length (s .list) → CountUp (lastTicket (leaves t s .list)) ts → CountUp (lastTicket (s .list)) (ticketTold t s ++ ts)
@@ -95,6 +97,7 @@ module _ (t : ℕ) (o : Order) (ahead : List Order) where
   own-follows ψ (Rounds O) s f = f
   own-follows ψ (Reports x) s f = f
   own-follows ψ (Saves O) s f = f
+  own-follows ψ Refreshes s f = still t o ahead ψ (seen s) (seen (leavesOwn Refreshes s)) refl f
   own-follows ψ (Fetches u) s f = one.follows-next t o ahead ψ (Fetches u) (seen s) f
 
   follows-next : (ψ : Fate) (u : Turn) (s : Pair) → Follows t o ahead ψ (seen s) → Follows t o ahead (fateNext t o ahead ψ u s) (seen (leaves u s))

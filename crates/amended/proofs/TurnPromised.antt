@@ -6,14 +6,15 @@ use Prim.Native.Nat.{ℕ}
 use Rattle.calls.specs.declared.Drive.{Drive}
 use Rattle.calls.specs.declared.Served.{Served}
 use Rattle.calls.specs.declared.Rounded.{Rounded}
+use Rattle.calls.specs.declared.Refreshed.{Refreshed}
 use Rattle.calls.specs.declared.Reported.{Reported}
-use Rattle.calls.specs.Answers.{servingAnswer, roundingAnswer, reportAnswer}
+use Rattle.calls.specs.Answers.{servingAnswer, roundingAnswer, refreshingAnswer, reportAnswer}
 use Rattle.sheets.specs.declared.Saved.{Saved}
 use Rattle.sheets.specs.Results.{savingAnswer}
 use Rattle.orders.specs.declared.Ordered.{Ordered}
 use Rattle.orders.specs.Answers.{orderingAnswer}
 use Rattle.orders.specs.Results.{addOrder, removeOrder}
-use Rattle.drives.specs.Promises.{Orders, Serves, Rounds, Reports, Saves}
+use Rattle.drives.specs.Promises.{Orders, Serves, Rounds, Reports, Saves, Refreshes}
 use Rattle.amended.specs.Deeds as deeds
 use Rattle.amended.specs.Deeds.{Deed}
 use Rattle.amended.specs.Turns.{Pair, answersOwn, returned, boardAfter, listAfter}
@@ -53,3 +54,7 @@ module _ (s : Pair) where
   pub save-kept : (O : List ℕ) {r : Saved} {E : List ℕ} → Saves a b (s .board) O r E
       → (savingAnswer (r .answer) ≡ answersOwn (deeds.Saves O) s) × (r .drive ≡ returned (deeds.Saves O) s) × (E ≡ writes (deeds.Saves O) s)
   save-kept O p = (p .1, ap (λ (r : Saved). r .drive) (p .0), p .2)
+
+  pub fresh-kept : {r : Refreshed} {E : List ℕ} → Refreshes a b (s .board) r E
+      → (refreshingAnswer (r .answer) ≡ answersOwn deeds.Refreshes s) × (r .drive ≡ returned deeds.Refreshes s) × (E ≡ boardAfter deeds.Refreshes s)
+  fresh-kept p = (p .1, ap (λ (r : Refreshed). r .drive) (p .0), p .2)

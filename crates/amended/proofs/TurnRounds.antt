@@ -15,18 +15,18 @@ use Rattle.demands.specs.Histories.{Act, Slot, State, after, log}
 use Rattle.demands.specs.Holdings.{Stream, heldFrom}
 use Rattle.demands.specs.Rounds.{namesFrom}
 use Rattle.demands.specs.Rounds as rounds
-use Rattle.demands.proofs.Laws.{Sound, reached, slot-clear, full-over}
+use Rattle.demands.proofs.Laws.{Sound, reached, slot-clear, fresh-passes, full-over}
 use Rattle.waiting.specs.declared.Order.{Order}
 use Rattle.waiting.specs.Layout.{waiting}
 use Rattle.waiting.proofs.Laws.{none-waits}
 use Rattle.orders.specs.Results.{doing, saying, ranList}
-use Rattle.drives.specs.Checks.{bothStart}
+use Rattle.drives.specs.Checks.{bothStart, startCheck, pairFreshCheck}
 use Rattle.drives.specs.Results.{listThen}
-use Rattle.drives.proofs.Laws.{clear-pair, start-swap}
+use Rattle.drives.proofs.Laws.{clear-pair, start-both, start-swap}
 use Rattle.amended.specs.Histories.{Each}
 use Rattle.amended.specs.Carried.{actsOf}
 use Rattle.amended.specs.Deeds.{Slots}
-use Rattle.amended.specs.Turns.{Pair, exchanged, shown, firstChecks, lookChecks, answersOwn, Turn, Own, leaves, leavesAll, Unbroken, due, standsFor, plain, namesServed, FullRound, nameServed, restarts}
+use Rattle.amended.specs.Turns.{Pair, exchanged, shown, firstChecks, lookChecks, freshChecks, answersOwn, Turn, Own, leaves, leavesAll, Unbroken, due, standsFor, plain, namesServed, FullRound, nameServed, restarts}
 use Rattle.amended.specs.Sharing.{heldNext, heldThen}
 use Rattle.amended.proofs.Carrying.{acts-names}
 use Rattle.amended.proofs.Projecting as projecting
@@ -44,6 +44,11 @@ module _ (hs : List Stream) (s : Pair) (is : Standing hs s) where
 
   pub first-clear : firstChecks s ≡ Clear
   first-clear = rw (le-ltb (length (s .list)) 259 (is .long)) look-clear
+
+  -- nor do those of the fresh layout, where both drives are at the start of a round
+  pub fresh-clear : bothStart (s .own) (s .other) ≡ true → freshChecks s ≡ Clear
+  unfolding pairFreshCheck startCheck
+  fresh-clear t = rw (look-clear, t) (fresh-passes (shown s) hs (is .own) (start-both (s .own) (s .other) t .0))
 
   pub slot-served : answersOwn Slots s .number ≡ 0
   slot-served = rw first-clear refl

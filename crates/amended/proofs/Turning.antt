@@ -2,7 +2,7 @@
 -- plain history of that drive that it stands for. Shown for the own drive; the other's is the same history with the records exchanged.
 -- Assumes nothing.
 use mathlib.Core.Path.{_≡_, refl, sym, ap, _∙_}
-use mathlib.Core.Bool.{false}
+use mathlib.Core.Bool.{true, false}
 use mathlib.Core.List.{List, [], _∷_}
 use Prim.Native.Nat.{ℕ}
 use lib.ListN.{length}
@@ -11,7 +11,7 @@ use Rattle.calls.specs.declared.Check.{Check}
 use Rattle.calls.specs.declared.Check.the-variants.{Clear, Refused}
 use Rattle.calls.specs.Refusals.{slotCheck}
 use Rattle.calls.specs.Answers.{answered}
-use Rattle.calls.specs.Results.{ifClear, movedOn, servedName, servedLeaf, servedPassed, servedRound}
+use Rattle.calls.specs.Results.{ifClear, movedOn, servedName, servedLeaf, servedPassed, servedRound, refreshedBoard}
 use Rattle.calls.proofs.Laws.{by-bool, number-some}
 use Rattle.demands.specs.Histories.{Act, Slot, Round, Report, State, does, after, log}
 use Rattle.demands.specs.Rounds.{names}
@@ -25,15 +25,16 @@ use Rattle.orders.specs.Results.{addOrder, removeOrder, carriedBoard, doing, ra
 use Rattle.orders.proofs.Laws.{if-slot}
 use Rattle.drives.specs.Checks.{bothStart}
 use Rattle.drives.specs.Results.{boardThen}
-use Rattle.drives.proofs.Laws.{pair-clear, pair-vouch, now-both, both-alike, all-alike}
+use Rattle.drives.proofs.Laws.{pair-clear, pair-vouch, now-both, both-alike, all-alike, fresh-swap, fresh-one-drive}
 use Rattle.amended.specs.Histories.{through}
 use Rattle.amended.specs.Carried.{actsOf}
 use Rattle.amended.specs.Deeds as one
-use Rattle.amended.specs.Deeds.{Deed, Opens, Reads, Adds, Removes, Slots, Rounds, Reports, Saves, Fetches, openChecks, readChecks}
-use Rattle.amended.specs.Turns.{Pair, exchanged, seen, shown, firstChecks, lookChecks, wayAt, leavesOwn, Turn, Own, Other, leaves, leavesAll, turnedAll, restarts, Unbroken, due, ifNow, carriesOut, alone, standsFor, plain, nameIn, nameOwn, nameServed, namesServed}
+use Rattle.amended.specs.Deeds.{Deed, Opens, Reads, Adds, Removes, Slots, Rounds, Reports, Saves, Fetches, Refreshes, openChecks, readChecks}
+use Rattle.amended.specs.Turns.{Pair, exchanged, seen, shown, firstChecks, lookChecks, freshChecks, wayAt, leavesOwn, Turn, Own, Other, leaves, leavesAll, turnedAll, restarts, Unbroken, due, ifNow, carriesOut, laysOut, shared, alone, standsFor, plain, nameIn, nameOwn, nameServed, namesServed}
 use Rattle.amended.proofs.Carrying.{carry-all, acts-names}
-use Rattle.amended.proofs.Projection.{not-clear}
+use Rattle.amended.proofs.Projection.{not-clear, is-clear}
 use Rattle.amended.proofs.Projecting as projecting
+use Rattle.amended.proofs.Answering.{clash}
 
 -- ---- the other drive's history
 
@@ -54,6 +55,7 @@ other-stays (Rounds O) s e = refl
 other-stays (Reports x) s e = refl
 other-stays (Saves O) s e = refl
 other-stays (Fetches t) s e = refl
+other-stays Refreshes s e = refl
 
 -- ---- what a call carries out is all that it does to the board
 
@@ -79,17 +81,18 @@ unfolding carriedAll
 slot-board s Clear = sym (due-board s)
 slot-board s (Refused r) = refl
 
-own-board : (a : Deed) (s : Pair) → one.restarts a (seen s) ≡ false → leavesOwn a s .board ≡ carriedAll (doing (s .own)) (s .board) (carriesOut a s)
+own-board : (a : Deed) (s : Pair) → one.restarts a (seen s) ≡ false → laysOut a s ≡ false → leavesOwn a s .board ≡ carriedAll (doing (s .own)) (s .board) (carriesOut a s)
 unfolding carriedAll
-own-board (Opens C) s e = rw (not-clear (openChecks (seen s) C) e .1) refl
-own-board (Reads S) s e = rw (not-clear (readChecks (seen s) S) e .1) refl
-own-board (Adds x w) s e = way-board (s .own) (s .board) (addOrder x w) (wayAt (addOrder x w) s)
-own-board (Removes x) s e = way-board (s .own) (s .board) (removeOrder x) (wayAt (removeOrder x) s)
-own-board Slots s e = slot-board s (firstChecks s)
-own-board (Rounds O) s e = refl
-own-board (Reports x) s e = refl
-own-board (Saves O) s e = refl
-own-board (Fetches t) s e = refl
+own-board (Opens C) s e f = rw (not-clear (openChecks (seen s) C) e .1) refl
+own-board (Reads S) s e f = rw (not-clear (readChecks (seen s) S) e .1) refl
+own-board (Adds x w) s e f = way-board (s .own) (s .board) (addOrder x w) (wayAt (addOrder x w) s)
+own-board (Removes x) s e f = way-board (s .own) (s .board) (removeOrder x) (wayAt (removeOrder x) s)
+own-board Slots s e f = slot-board s (firstChecks s)
+own-board (Rounds O) s e f = refl
+own-board (Reports x) s e f = refl
+own-board (Saves O) s e f = refl
+own-board (Fetches t) s e f = refl
+own-board Refreshes s e f = rw (not-clear (freshChecks s) f .1) refl
 
 -- ---- a call carries orders out only where the two records have equal C and p: what hangs on these alone is the same at both
 
@@ -120,18 +123,43 @@ module _ {X : Type 0} (f : Drive → List Order → X) (none : (a b : Drive) →
   carries-alike (Reports x) s = none (s .own) (s .other)
   carries-alike (Saves O) s = none (s .own) (s .other)
   carries-alike (Fetches t) s = none (s .own) (s .other)
+  carries-alike Refreshes s = none (s .own) (s .other)
 
 other-board : (a : Deed) (s : Pair) → carriedAll (doing (s .own)) (s .board) (carriesOut a s) ≡ carriedAll (doing (s .other)) (s .board) (carriesOut a s)
 unfolding carriedAll
 other-board a s =
     carries-alike (λ (d : Drive) (os : List Order). carriedAll (doing d) (s .board) os) (λ c d. refl) (λ c d ec ep os. all-alike c d ec ep (s .board) os) a s
 
--- the acts of both drives leave the board that the call leaves, in either drive's history
-own-shared : (a : Deed) (s : Pair) → one.restarts a (seen s) ≡ false → after (shown s) (actsOf (carriesOut a s)) ≡ stateAt (s .own) (leavesOwn a s .board)
-own-shared a s e = carry-all (s .own) (s .board) (carriesOut a s) ∙ ap (stateAt (s .own)) (sym (own-board a s e))
+-- a fresh layout leaves the board that the plain one leaves, at either record
+lays-board : (a : Deed) (s : Pair) → laysOut a s ≡ true
+    → (refreshedBoard (s .own) (s .board) ≡ leavesOwn a s .board) × (refreshedBoard (s .other) (s .board) ≡ leavesOwn a s .board)
+lays-board (Opens C) s t = clash t refl
+lays-board (Reads S) s t = clash t refl
+lays-board (Adds x w) s t = clash t refl
+lays-board (Removes x) s t = clash t refl
+lays-board Slots s t = clash t refl
+lays-board (Rounds O) s t = clash t refl
+lays-board (Reports x) s t = clash t refl
+lays-board (Saves O) s t = clash t refl
+lays-board (Fetches u) s t = clash t refl
+lays-board Refreshes s t =
+    let e = is-clear (freshChecks s) t in
+    let w = fresh-swap (s .own) (s .other) (s .board) in
+    let o = fresh-one-drive (s .other) (s .own) (s .board) (sym (w .0) ∙ e) in
+    (sym (fresh-one-drive (s .own) (s .other) (s .board) e .1), sym (w .1 ∙ o .1))
 
-other-shared : (a : Deed) (s : Pair) → one.restarts a (seen s) ≡ false → after (shown (exchanged s)) (actsOf (carriesOut a s)) ≡ stateAt (s .other) (leavesOwn a s .board)
-other-shared a s e = carry-all (s .other) (s .board) (carriesOut a s) ∙ ap (stateAt (s .other)) (sym (own-board a s e ∙ other-board a s))
+-- the acts of both drives leave the board that the call leaves, in either drive's history
+own-shared : (a : Deed) (s : Pair) → one.restarts a (seen s) ≡ false → after (shown s) (shared a s) ≡ stateAt (s .own) (leavesOwn a s .board)
+unfolding after
+own-shared a s e = by-bool (laysOut a s)
+    (λ t. rw t (ap (stateAt (s .own)) (lays-board a s t .0)))
+    (λ f. rw f (carry-all (s .own) (s .board) (carriesOut a s) ∙ ap (stateAt (s .own)) (sym (own-board a s e f))))
+
+other-shared : (a : Deed) (s : Pair) → one.restarts a (seen s) ≡ false → after (shown (exchanged s)) (shared a s) ≡ stateAt (s .other) (leavesOwn a s .board)
+unfolding after
+other-shared a s e = by-bool (laysOut a s)
+    (λ t. rw t (ap (stateAt (s .other)) (lays-board a s t .1)))
+    (λ f. rw f (carry-all (s .other) (s .board) (carriesOut a s) ∙ ap (stateAt (s .other)) (sym (own-board a s e f ∙ other-board a s))))
 
 pub due-state : (s : Pair) → after (shown s) (actsOf (due s)) ≡ ranState s
 due-state s = carry-all (s .own) (s .board) (due s) ∙ ap (stateAt (s .own)) (due-board s)
@@ -164,12 +192,13 @@ own-alone (Rounds O) s e = look-alone (shown s) (Round O) (lookChecks s) refl
 own-alone (Reports x) s e = look-alone (shown s) (Report x) (lookChecks s) refl
 own-alone (Saves O) s e = refl
 own-alone (Fetches t) s e = refl
+own-alone Refreshes s e = refl
 
 -- ---- the record and the board
 
 pub projected-one : (t : Turn) (s : Pair) → restarts t s ≡ false → shown (leaves t s) ≡ after (shown s) (standsFor t s)
 projected-one (Own a) s e =
-    sym (after-append (shown s) (actsOf (carriesOut a s)) (alone a s)
+    sym (after-append (shown s) (shared a s) (alone a s)
     ∙ ap (λ (u : State). after u (alone a s)) (own-shared a s e)
     ∙ own-alone a s e)
 projected-one (Other a) s e =
@@ -204,13 +233,18 @@ own-names (Rounds O) s = look-names (shown s) (Round O) (lookChecks s) refl
 own-names (Reports x) s = look-names (shown s) (Report x) (lookChecks s) refl
 own-names (Saves O) s = refl
 own-names (Fetches t) s = refl
+own-names Refreshes s = refl
+
+shared-names : (u : State) (a : Deed) (s : Pair) → names (log u (shared a s)) ≡ []
+unfolding names log
+shared-names u a s = by-bool (laysOut a s) (λ t. rw t refl) (λ f. rw f (acts-names u (carriesOut a s)))
 
 pub names-one : (t : Turn) (s : Pair) → restarts t s ≡ false → nameServed t s ≡ names (log (shown s) (standsFor t s))
 names-one (Own a) s e =
     own-names a s
     ∙ ap (λ (u : State). names (log u (alone a s))) (sym (own-shared a s e))
-    ∙ sym (names-append (shown s) (actsOf (carriesOut a s)) (alone a s) ∙ rw (acts-names (shown s) (carriesOut a s)) refl)
-names-one (Other a) s e = sym (acts-names (shown s) (carriesOut a (exchanged s)))
+    ∙ sym (names-append (shown s) (shared a s) (alone a s) ∙ rw (shared-names (shown s) a s) refl)
+names-one (Other a) s e = sym (shared-names (shown s) a (exchanged s))
 
 -- The names that the own drive's slots serve are those that the plain calls serve.
 pub names-same : (s : Pair) (turns : List Turn) → Unbroken s turns → namesServed s turns ≡ names (log (shown s) (plain s turns))

@@ -16,7 +16,7 @@ use Rattle.calls.specs.declared.Check.the-variants.{Clear}
 use Rattle.calls.specs.Records.{roundAfter}
 use Rattle.calls.specs.Refusals.{firstOf, askedAdd}
 use Rattle.calls.specs.Results.{roundNames}
-use Rattle.demands.specs.Histories.{Act, State, after, log}
+use Rattle.demands.specs.Histories.{Act, Fresh, State, does, after, log}
 use Rattle.demands.specs.Refusing.{otherChecks}
 use Rattle.demands.specs.Holdings.{Stream, heldFrom, heldOf, total}
 use Rattle.demands.specs.Rounds.{names, times, inARow, Near, bound, demanded}
@@ -26,21 +26,22 @@ use Rattle.waiting.specs.Layout.{lastTicket, waiting}
 use Rattle.waiting.specs.Meaning.{InOrder}
 use Rattle.orders.specs.declared.Way.the-variants as way
 use Rattle.orders.specs.Results.{addOrder, removeOrder}
-use Rattle.drives.specs.Checks.{bothStart}
+use Rattle.drives.specs.Checks.{bothStart, startCheck, pairFreshCheck}
 use Rattle.drives.specs.Results.{boardThen}
+use Rattle.drives.proofs.Laws.{fresh-one-drive}
 use Rattle.amended.specs.Carried.{actsOf, inTurn}
-use Rattle.amended.specs.Deeds.{Deed, Adds, Removes, Slots, Fetches, CountUp}
+use Rattle.amended.specs.Deeds.{Deed, Adds, Removes, Slots, Fetches, Refreshes, CountUp}
 use Rattle.amended.specs.Fates.{Waits, toldOf}
 use Rattle.amended.specs.Holding.{onBoard}
 use Rattle.amended.specs.Refusing.{ofBoard}
 use Rattle.amended.specs.Turns.{Pair, exchanged, Which, This, That, seenBy, seen, shown, wayAt, answersOwn, leavesOwn, Turn, Own, Other, answers, leaves, leavesAll, turned, turnedAll, restarts, Unbroken, plain, namesServed, FullRound, ticketsTold}
-use Rattle.amended.specs.Sharing.{heldThrough, heldThen, Ready, fateThrough}
+use Rattle.amended.specs.Sharing.{heldNext, heldThrough, heldThen, Ready, fateThrough}
 use Rattle.amended.specs.Stretches.{StillTurns}
 use Rattle.amended.proofs.Keeping.{held-leaves, held-pieces, held-within, turn-others, turn-room, turn-carried, Serves, round-serves}
 use Rattle.amended.proofs.Listing.{taken-follows}
 use Rattle.amended.proofs.Turning.{turned-leaves, other-stays, ranState, projected, names-same}
-use Rattle.amended.proofs.Sharing.{held-plain, held-turned, Standing, standing-turned, both-given, restart-standing, standing}
-use Rattle.amended.proofs.TurnRounds.{first-clear, slot-served, ran-sound, then-turned, slot-runs, slots-full, round-names, plain-round, round-ends}
+use Rattle.amended.proofs.Sharing.{fresh-held, held-plain, held-turned, Standing, standing-turned, both-given, restart-standing, standing}
+use Rattle.amended.proofs.TurnRounds.{look-clear, first-clear, fresh-clear, slot-served, ran-sound, then-turned, slot-runs, slots-full, round-names, plain-round, round-ends}
 use Rattle.amended.proofs.TurnStretches.{slots-still, kept, power, fair, power-then, fair-then}
 use Rattle.amended.proofs.TurnAnswers.{undamaged}
 use Rattle.amended.proofs.TurnLists.{in-order, count-up, followed, add-thirteen, remove-thirteen}
@@ -186,6 +187,22 @@ module _ (s : Pair) (ready : Ready s) (turns : List Turn) (f : Which) where
   pub two-at-once : (x w : ℕ) → wayAt (addOrder x w) pair' ≡ way.Now → answersOwn (Adds x w) pair' ≡ inTurn (shown pair') [] (addOrder x w)
   unfolding actsOf after
   two-at-once x w e = rw e refl
+
+  -- ---- Request No. 12: a fresh layout, by either drive
+
+  -- Where both drives are at the start of a round it is done at once, whether orders wait or not, and leaves the board that the own drive's alone would leave; the
+  -- list stays as it is. Where one of them is not it is answered 4.
+  pub two-fresh : bothStart (pair' .own) (pair' .other) ≡ true
+      → (answersOwn Refreshes pair' .number ≡ 0) × (leavesOwn Refreshes pair' .board ≡ does Fresh (shown pair') .board) × (leavesOwn Refreshes pair' .list ≡ pair' .list)
+  two-fresh t = let e = fresh-clear held' pair' st t in (rw e refl, fresh-one-drive (pair' .own) (pair' .other) (pair' .board) e .1, refl)
+
+  pub two-fresh-midround : bothStart (pair' .own) (pair' .other) ≡ false → answersOwn Refreshes pair' .number ≡ 4
+  unfolding pairFreshCheck startCheck
+  two-fresh-midround f = rw (look-clear held' pair' st, f) refl
+
+  -- What is held stays, so that all of this goes on after it, for both drives.
+  pub two-fresh-held : (heldNext held' (Own Refreshes) pair' ≡ held') × (heldNext held' (Other Refreshes) pair' ≡ held')
+  two-fresh-held = (fresh-held held' pair', fresh-held held' (exchanged pair'))
 
   -- ---- rounds
 

@@ -14,7 +14,7 @@ use Rattle.calls.specs.declared.Check.the-variants.{Clear, Refused}
 use Rattle.calls.specs.Answers.{Answer}
 use Rattle.calls.specs.Results.{ifClear}
 use Rattle.sheets.specs.Results.{saved, savedAnswer}
-use Rattle.demands.specs.Histories.{Act, Slot, Round, Report, State, does, says}
+use Rattle.demands.specs.Histories.{Act, Slot, Round, Report, Fresh, State, does, says}
 use Rattle.waiting.specs.declared.Order.{Order}
 use Rattle.waiting.specs.Layout.{waiting, fetched, fetchedList}
 use Rattle.orders.specs.declared.Way.{Way}
@@ -26,7 +26,7 @@ use Rattle.amended.specs.Histories.{through, along, Each}
 use Rattle.amended.specs.Carried.{actOf, actsOf}
 
 -- A call, with what it is given beside the record, the board and the list: a capacity; a sheet; a name and a weight; a name; nothing; the lent output; a
--- name; the lent output; a ticket.
+-- name; the lent output; a ticket; nothing (the fresh layout, request No. 12).
 pub data Deed : Type 0 where
   Opens : ℕ → Deed
   Reads : List ℕ → Deed
@@ -37,6 +37,7 @@ pub data Deed : Type 0 where
   Reports : ℕ → Deed
   Saves : List ℕ → Deed
   Fetches : ℕ → Deed
+  Refreshes : Deed
 
 -- The record, the board and the list between two calls.
 pub record Desk : Type 0 where
@@ -72,6 +73,7 @@ answers (Rounds O) s = says (Round O) (s .state)
 answers (Reports x) s = says (Report x) (s .state)
 answers (Saves O) s = savedAnswer (s .state .drive) (s .state .board) O
 answers (Fetches t) s = fetchingAnswer (fetched (s .list) t)
+answers Refreshes s = says Fresh (s .state)
 
 -- The record that it returns; fetch takes none.
 abbrev pub returned : Deed → Desk → Drive
@@ -84,6 +86,7 @@ returned (Rounds O) s = does (Round O) (s .state) .drive
 returned (Reports x) s = does (Report x) (s .state) .drive
 returned (Saves O) s = saved (s .state .drive) (s .state .board) O .drive
 returned (Fetches t) s = s .state .drive
+returned Refreshes s = does Fresh (s .state) .drive
 
 -- The record that the next call is given: the one returned; after a refused open or read, which return none to go on with, the one before.
 abbrev pub recordAfter : Deed → Desk → Drive
@@ -96,6 +99,7 @@ recordAfter (Rounds O) s = returned (Rounds O) s
 recordAfter (Reports x) s = returned (Reports x) s
 recordAfter (Saves O) s = returned (Saves O) s
 recordAfter (Fetches t) s = returned (Fetches t) s
+recordAfter Refreshes s = returned Refreshes s
 
 -- What it leaves of the board, and of the list.
 abbrev pub boardAfter : Deed → Desk → List ℕ
@@ -108,6 +112,7 @@ boardAfter (Rounds O) s = s .state .board
 boardAfter (Reports x) s = s .state .board
 boardAfter (Saves O) s = s .state .board
 boardAfter (Fetches t) s = s .state .board
+boardAfter Refreshes s = does Fresh (s .state) .board
 
 abbrev pub listAfter : Deed → Desk → List ℕ
 listAfter (Opens C) s = openedList C (s .state .board) (s .list)
@@ -119,6 +124,7 @@ listAfter (Rounds O) s = s .list
 listAfter (Reports x) s = s .list
 listAfter (Saves O) s = s .list
 listAfter (Fetches t) s = fetchedList (s .list) t
+listAfter Refreshes s = s .list
 
 abbrev pub leaves : Deed → Desk → Desk
 leaves a s = desk (recordAfter a s) (boardAfter a s) (listAfter a s)
@@ -144,6 +150,7 @@ restarts (Rounds O) s = false
 restarts (Reports x) s = false
 restarts (Saves O) s = false
 restarts (Fetches t) s = false
+restarts Refreshes s = false
 
 -- No call of these is one.
 abbrev pub Unbroken : Desk → List Deed → Type 0
@@ -177,6 +184,7 @@ standsFor (Rounds O) s = Round O ∷ []
 standsFor (Reports x) s = Report x ∷ []
 standsFor (Saves O) s = []
 standsFor (Fetches t) s = []
+standsFor Refreshes s = Fresh ∷ []
 
 abbrev pub plain : Desk → List Deed → List Act
 plain s deeds = along leaves standsFor s deeds
@@ -194,6 +202,7 @@ nameServed (Rounds O) s = []
 nameServed (Reports x) s = []
 nameServed (Saves O) s = []
 nameServed (Fetches t) s = []
+nameServed Refreshes s = []
 
 abbrev pub namesServed : Desk → List Deed → List ℕ
 namesServed s deeds = along leaves nameServed s deeds
@@ -221,6 +230,7 @@ ticketTold (Rounds O) s = []
 ticketTold (Reports x) s = []
 ticketTold (Saves O) s = []
 ticketTold (Fetches t) s = []
+ticketTold Refreshes s = []
 
 abbrev pub ticketsTold : Desk → List Deed → List ℕ
 ticketsTold s deeds = along leaves ticketTold s deeds

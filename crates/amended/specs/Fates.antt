@@ -8,7 +8,7 @@ use Rattle.calls.specs.Answers.{Answer}
 use Rattle.waiting.specs.declared.Order.{Order}
 use Rattle.amended.specs.Histories.{following}
 use Rattle.amended.specs.Carried.{inTurn}
-use Rattle.amended.specs.Deeds.{Deed, Opens, Reads, Adds, Removes, Slots, Rounds, Reports, Saves, Fetches, Desk, leaves, restarts, runs}
+use Rattle.amended.specs.Deeds.{Deed, Opens, Reads, Adds, Removes, Slots, Rounds, Reports, Saves, Fetches, Refreshes, Desk, leaves, restarts, runs}
 
 -- It waits; it is answered, and the answer is to be fetched; or its answer was fetched, or an open or a read struck it off.
 pub data Fate : Type 0 where
@@ -45,6 +45,7 @@ fateNext t o ahead φ (Rounds O) s = φ
 fateNext t o ahead φ (Reports x) s = φ
 fateNext t o ahead φ (Saves O) s = φ
 fateNext t o ahead φ (Fetches u) s = cond (eqb u t) (handedOut φ) φ
+fateNext t o ahead φ Refreshes s = φ
 
 abbrev pub fateThrough : ℕ → Order → List Order → Fate → Desk → List Deed → Fate
 fateThrough t o ahead φ s deeds = following leaves (fateNext t o ahead) φ s deeds

@@ -15,7 +15,7 @@ use Rattle.sheets.specs.Results.{savedOutput}
 use Rattle.waiting.specs.declared.Fetching.{Fetching}
 use Rattle.waiting.specs.declared.Fetching.the-variants as fetching
 use Rattle.waiting.specs.Layout.{lastTicket, fetched}
-use Rattle.amended.specs.Deeds.{Deed, Opens, Reads, Adds, Removes, Slots, Rounds, Reports, Saves, Fetches, Desk, answers, returned, boardAfter, listAfter}
+use Rattle.amended.specs.Deeds.{Deed, Opens, Reads, Adds, Removes, Slots, Rounds, Reports, Saves, Fetches, Refreshes, Desk, answers, returned, boardAfter, listAfter}
 
 -- The numbers, beside 0, that a call may answer.
 abbrev pub mayAnswer : Deed → List ℕ
@@ -28,6 +28,7 @@ mayAnswer (Rounds O) = 1 ∷ 2 ∷ 3 ∷ 11 ∷ []
 mayAnswer (Reports x) = 1 ∷ 2 ∷ 3 ∷ 5 ∷ 6 ∷ 9 ∷ []
 mayAnswer (Saves O) = 1 ∷ 2 ∷ 3 ∷ 4 ∷ 5 ∷ 11 ∷ []
 mayAnswer (Fetches t) = 13 ∷ 15 ∷ []
+mayAnswer Refreshes = 1 ∷ 2 ∷ 3 ∷ 4 ∷ 5 ∷ []
 
 -- A call is done: it answers 0; a fetch, that it hands an answer out, whatever that says.
 abbrev pub handsOut : Fetching → Bool
@@ -45,6 +46,7 @@ isDone (Rounds O) s = eqb (answers (Rounds O) s .number) 0
 isDone (Reports x) s = eqb (answers (Reports x) s .number) 0
 isDone (Saves O) s = eqb (answers (Saves O) s .number) 0
 isDone (Fetches t) s = handsOut (fetched (s .list) t)
+isDone Refreshes s = eqb (answers Refreshes s .number) 0
 
 -- The record that a refused call returns: the one it was given; open and read have none, and return zeros.
 abbrev pub refusedRecord : Deed → Drive → Drive
@@ -57,6 +59,7 @@ refusedRecord (Rounds O) d = d
 refusedRecord (Reports x) d = d
 refusedRecord (Saves O) d = d
 refusedRecord (Fetches t) d = d
+refusedRecord Refreshes d = d
 
 -- The values of a refused call: zeros, but beside 13 the ticket and beside 10 the idle leaves there are.
 abbrev pub zeros : List ℕ → List ℕ
@@ -72,6 +75,7 @@ ticketOf (Rounds O) s = 0
 ticketOf (Reports x) s = 0
 ticketOf (Saves O) s = 0
 ticketOf (Fetches t) s = t
+ticketOf Refreshes s = 0
 
 abbrev pub idleLeaves : Desk → ℕ
 idleLeaves s = weight (s .state .drive .capacity) (s .state .board) 0
@@ -90,6 +94,7 @@ lent (Rounds O) = O
 lent (Reports x) = []
 lent (Saves O) = O
 lent (Fetches t) = []
+lent Refreshes = []
 
 abbrev pub writes : Deed → Desk → List ℕ
 writes (Opens C) s = []
@@ -101,6 +106,7 @@ writes (Rounds O) s = roundedOutput (s .state .drive) (s .state .board) O
 writes (Reports x) s = []
 writes (Saves O) s = savedOutput (s .state .drive) (s .state .board) O
 writes (Fetches t) s = []
+writes Refreshes s = []
 
 -- What a call that is not done may still change: a change that answers 13 has put its order on the list.
 abbrev pub joins : Deed → Answer → Bool
@@ -113,6 +119,7 @@ joins (Rounds O) r = false
 joins (Reports x) r = false
 joins (Saves O) r = false
 joins (Fetches t) r = false
+joins Refreshes r = false
 
 -- A call that is not done: it answers a number of its list, returns the record that it was given, leaves the board, the lent output and the list as they were, and
 -- gives zeros for values; but ROOM says the idle leaves, and 13 the ticket, and a change that answers 13 has put its order on the list. r is what it says, d
@@ -139,3 +146,4 @@ ofBoard (Rounds O) = true
 ofBoard (Reports x) = true
 ofBoard (Saves O) = true
 ofBoard (Fetches t) = false
+ofBoard Refreshes = true

@@ -14,13 +14,13 @@ use Rattle.drives.specs.Results.{roundedOutput, savedOutput}
 use Rattle.amended.specs.Histories.{following}
 use Rattle.amended.specs.Carried.{actsOf, inTurn}
 use Rattle.amended.specs.Deeds as one
-use Rattle.amended.specs.Deeds.{Deed, Opens, Reads, Adds, Removes, Slots, Rounds, Reports, Saves, Fetches}
+use Rattle.amended.specs.Deeds.{Deed, Opens, Reads, Adds, Removes, Slots, Rounds, Reports, Saves, Fetches, Refreshes}
 use Rattle.amended.specs.Refusing as refusing
 use Rattle.amended.specs.Refusing.{RefusedBy}
 use Rattle.amended.specs.Holding.{onBoard}
 use Rattle.amended.specs.Fates as fates
 use Rattle.amended.specs.Fates.{Fate, ran}
-use Rattle.amended.specs.Turns.{Pair, exchanged, seen, shown, firstChecks, answersOwn, returned, boardAfter, listAfter, leavesOwn, Turn, Own, Other, leaves, runs, due, carriesOut}
+use Rattle.amended.specs.Turns.{Pair, exchanged, seen, shown, firstChecks, answersOwn, returned, boardAfter, listAfter, leavesOwn, Turn, Own, Other, leaves, runs, due, shared}
 
 -- ---- demand 1, of a call of the own drive; for the other's the records are exchanged
 
@@ -35,6 +35,7 @@ isDone (Rounds O) s = eqb (answersOwn (Rounds O) s .number) 0
 isDone (Reports x) s = eqb (answersOwn (Reports x) s .number) 0
 isDone (Saves O) s = eqb (answersOwn (Saves O) s .number) 0
 isDone (Fetches t) s = refusing.isDone (Fetches t) (seen s)
+isDone Refreshes s = eqb (answersOwn Refreshes s .number) 0
 
 -- What it leaves in the output that it is lent.
 abbrev pub writes : Deed → Pair → List ℕ
@@ -47,6 +48,7 @@ writes (Rounds O) s = roundedOutput (s .own) (s .other) (s .board) O
 writes (Reports x) s = []
 writes (Saves O) s = savedOutput (s .own) (s .other) (s .board) O
 writes (Fetches t) s = []
+writes Refreshes s = []
 
 -- It is not done.
 abbrev pub Refused : Deed → Pair → Type 0
@@ -54,9 +56,9 @@ Refused a s = RefusedBy a (seen s) (answersOwn a s) (returned a s) (boardAfter a
 
 -- ---- what is held
 
--- After a call, where hs was held before: after an open or a read that is done what is on the board, and else by the answers of the orders that it carries out.
+-- After a call, where hs was held before: after an open or a read that is done what is on the board, and else by the answers of the acts of both drives that it is.
 abbrev pub heldOwn : List Stream → Deed → Pair → List Stream
-heldOwn hs a s = cond (one.restarts a (seen s)) (onBoard (shown (leavesOwn a s))) (heldFrom hs (log (shown s) (actsOf (carriesOut a s))))
+heldOwn hs a s = cond (one.restarts a (seen s)) (onBoard (shown (leavesOwn a s))) (heldFrom hs (log (shown s) (shared a s)))
 
 abbrev pub heldNext : List Stream → Turn → Pair → List Stream
 heldNext hs (Own a) s = heldOwn hs a s
@@ -87,6 +89,7 @@ fateOwn t o ahead φ (Rounds O) s = φ
 fateOwn t o ahead φ (Reports x) s = φ
 fateOwn t o ahead φ (Saves O) s = φ
 fateOwn t o ahead φ (Fetches u) s = fates.fateNext t o ahead φ (Fetches u) (seen s)
+fateOwn t o ahead φ Refreshes s = φ
 
 abbrev pub fateNext : ℕ → Order → List Order → Fate → Turn → Pair → Fate
 fateNext t o ahead φ (Own a) s = fateOwn t o ahead φ a s

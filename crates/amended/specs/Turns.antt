@@ -1,5 +1,5 @@
 -- Histories of the calls for two drives on one board, as one of the drives sees them, and the plain history of that drive that they stand for: the orders that
--- either drive's calls carry out, and its own slots, rounds and reports. What the other drive sees is the same with the records exchanged. An open or a
+-- either drive's calls carry out, the fresh layouts of either, and its own slots, rounds and reports. What the other drive sees is the same with the records exchanged. An open or a
 -- read that is done gives both drives its record, and begins a history of its own.
 -- Assumes nothing.
 use mathlib.Core.Path.{_≡_}
@@ -12,18 +12,18 @@ use Rattle.calls.specs.declared.Drive.{Drive}
 use Rattle.calls.specs.declared.Check.{Check}
 use Rattle.calls.specs.Answers.{Answer}
 use Rattle.calls.specs.Results.{ifClear}
-use Rattle.demands.specs.Histories.{Act, Slot, Round, Report, State}
+use Rattle.demands.specs.Histories.{Act, Slot, Round, Report, Fresh, State}
 use Rattle.waiting.specs.declared.Order.{Order}
 use Rattle.waiting.specs.Layout.{waiting}
 use Rattle.orders.specs.declared.Way.{Way}
 use Rattle.orders.specs.declared.Way.the-variants as way
 use Rattle.orders.specs.Results.{addOrder, removeOrder}
-use Rattle.drives.specs.Checks.{listCheck, lookCheck, bothStart, wayOf}
-use Rattle.drives.specs.Results.{changed, changedAnswer, changedBoard, changedList, served, servedAnswer, servedBoard, servedList, rounded, roundedAnswer, reported, reportedAnswer, saved, savedAnswer}
+use Rattle.drives.specs.Checks.{listCheck, lookCheck, bothStart, wayOf, pairFreshCheck}
+use Rattle.drives.specs.Results.{changed, changedAnswer, changedBoard, changedList, served, servedAnswer, servedBoard, servedList, rounded, roundedAnswer, reported, reportedAnswer, saved, savedAnswer, refreshed, refreshedAnswer, refreshedBoard}
 use Rattle.amended.specs.Histories.{through, along, Each}
 use Rattle.amended.specs.Carried.{actsOf}
 use Rattle.amended.specs.Deeds as one
-use Rattle.amended.specs.Deeds.{Deed, Opens, Reads, Adds, Removes, Slots, Rounds, Reports, Saves, Fetches, Desk, desk, isClear, ticketIn}
+use Rattle.amended.specs.Deeds.{Deed, Opens, Reads, Adds, Removes, Slots, Rounds, Reports, Saves, Fetches, Refreshes, Desk, desk, isClear, ticketIn}
 
 -- The records, the board and the list between two calls: a drive's own record first.
 pub record Pair : Type 0 where
@@ -59,6 +59,10 @@ firstChecks s = listCheck (s .own) (s .other) (s .board) (length (s .list))
 abbrev pub lookChecks : Pair → Check
 lookChecks s = lookCheck (s .own) (s .other) (s .board)
 
+-- And those of the fresh layout.
+abbrev pub freshChecks : Pair → Check
+freshChecks s = pairFreshCheck (s .own) (s .other) (s .board)
+
 -- How a change is taken.
 abbrev pub wayAt : Order → Pair → Way
 wayAt o s = wayOf (s .own) (s .other) (s .board) (s .list) o
@@ -76,6 +80,7 @@ answersOwn (Rounds O) s = roundedAnswer (s .own) (s .other) (s .board) O
 answersOwn (Reports x) s = reportedAnswer (s .own) (s .other) (s .board) x
 answersOwn (Saves O) s = savedAnswer (s .own) (s .other) (s .board) O
 answersOwn (Fetches t) s = one.answers (Fetches t) (seen s)
+answersOwn Refreshes s = refreshedAnswer (s .own) (s .other) (s .board)
 
 -- The record that it returns.
 abbrev pub returned : Deed → Pair → Drive
@@ -88,6 +93,7 @@ returned (Rounds O) s = rounded (s .own) (s .other) (s .board) O .drive
 returned (Reports x) s = reported (s .own) (s .other) (s .board) x .drive
 returned (Saves O) s = saved (s .own) (s .other) (s .board) O .drive
 returned (Fetches t) s = one.returned (Fetches t) (seen s)
+returned Refreshes s = refreshed (s .own) (s .other) (s .board) .drive
 
 -- The record that the own drive's next call is given, and the other's: what an open or a read that is done returns is for both, and what any other call
 -- returns for the own drive alone.
@@ -101,6 +107,7 @@ ownAfter (Rounds O) s = returned (Rounds O) s
 ownAfter (Reports x) s = returned (Reports x) s
 ownAfter (Saves O) s = returned (Saves O) s
 ownAfter (Fetches t) s = returned (Fetches t) s
+ownAfter Refreshes s = returned Refreshes s
 
 abbrev pub otherAfter : Deed → Pair → Drive
 otherAfter (Opens C) s = one.recordAfter (Opens C) (seen (exchanged s))
@@ -112,6 +119,7 @@ otherAfter (Rounds O) s = s .other
 otherAfter (Reports x) s = s .other
 otherAfter (Saves O) s = s .other
 otherAfter (Fetches t) s = s .other
+otherAfter Refreshes s = s .other
 
 -- What it leaves of the board, and of the list.
 abbrev pub boardAfter : Deed → Pair → List ℕ
@@ -124,6 +132,7 @@ boardAfter (Rounds O) s = s .board
 boardAfter (Reports x) s = s .board
 boardAfter (Saves O) s = s .board
 boardAfter (Fetches t) s = s .board
+boardAfter Refreshes s = refreshedBoard (s .own) (s .other) (s .board)
 
 abbrev pub listAfter : Deed → Pair → List ℕ
 listAfter (Opens C) s = one.listAfter (Opens C) (seen s)
@@ -135,6 +144,7 @@ listAfter (Rounds O) s = s .list
 listAfter (Reports x) s = s .list
 listAfter (Saves O) s = s .list
 listAfter (Fetches t) s = one.listAfter (Fetches t) (seen s)
+listAfter Refreshes s = s .list
 
 abbrev pub leavesOwn : Deed → Pair → Pair
 leavesOwn a s = record { own = ownAfter a s; other = otherAfter a s; board = boardAfter a s; list = listAfter a s }
@@ -199,6 +209,24 @@ carriesOut (Rounds O) s = []
 carriesOut (Reports x) s = []
 carriesOut (Saves O) s = []
 carriesOut (Fetches t) s = []
+carriesOut Refreshes s = []
+
+-- A fresh layout that is done is an act of both too.
+abbrev pub laysOut : Deed → Pair → Bool
+laysOut (Opens C) s = false
+laysOut (Reads S) s = false
+laysOut (Adds x w) s = false
+laysOut (Removes x) s = false
+laysOut Slots s = false
+laysOut (Rounds O) s = false
+laysOut (Reports x) s = false
+laysOut (Saves O) s = false
+laysOut (Fetches t) s = false
+laysOut Refreshes s = isClear (freshChecks s)
+
+-- The acts of both.
+abbrev pub shared : Deed → Pair → List Act
+shared a s = cond (laysOut a s) (Fresh ∷ []) (actsOf (carriesOut a s))
 
 -- What else it is: an act of the own drive alone.
 abbrev pub alone : Deed → Pair → List Act
@@ -211,11 +239,12 @@ alone (Rounds O) s = ifClear (lookChecks s) (Round O ∷ []) []
 alone (Reports x) s = ifClear (lookChecks s) (Report x ∷ []) []
 alone (Saves O) s = []
 alone (Fetches t) s = []
+alone Refreshes s = []
 
 -- The plain calls of the own drive that a call stands for.
 abbrev pub standsFor : Turn → Pair → List Act
-standsFor (Own a) s = actsOf (carriesOut a s) ++ alone a s
-standsFor (Other a) s = actsOf (carriesOut a (exchanged s))
+standsFor (Own a) s = shared a s ++ alone a s
+standsFor (Other a) s = shared a (exchanged s)
 
 abbrev pub plain : Pair → List Turn → List Act
 plain s turns = along leaves standsFor s turns
@@ -236,6 +265,7 @@ nameOwn (Rounds O) s = []
 nameOwn (Reports x) s = []
 nameOwn (Saves O) s = []
 nameOwn (Fetches t) s = []
+nameOwn Refreshes s = []
 
 abbrev pub nameServed : Turn → Pair → List ℕ
 nameServed (Own a) s = nameOwn a s
@@ -264,6 +294,7 @@ ticketOwn (Rounds O) s = []
 ticketOwn (Reports x) s = []
 ticketOwn (Saves O) s = []
 ticketOwn (Fetches t) s = []
+ticketOwn Refreshes s = []
 
 abbrev pub ticketTold : Turn → Pair → List ℕ
 ticketTold (Own a) s = ticketOwn a s

@@ -6,17 +6,19 @@ use mathlib.Core.Bool.{Bool, true, _&&_}
 use mathlib.Core.List.{List, [], _∷_, map}
 use Prim.Native.Nat.{ℕ, zero, suc, _/_, _%_, _^_, _≤_, _<_}
 use native.Mathlib.Decide.{decLt}
-use native.Mathlib.Nat.{le-refl}
+use native.Mathlib.Nat.{le-refl, zero-add}
 use native.Mathlib.Omega.{arith}
 use lib.Dec.{eqb, ltb}
 use lib.ListN.{length, getD}
-use borrow.Author.Tests.{eq-eqb, eqb-true, ltb-true}
+use borrow.Author.Tests.{eq-eqb, ne-eqb, eqb-true, ltb-true, le-ltb}
+use Rattle.sequences.specs.Board.{leafAt, servedFrom, nextFrom, Position}
 use Rattle.sequences.specs.Serving.{countList, leavesFrom}
-use Rattle.sequences.proofs.Laws.{round-once}
+use Rattle.sequences.proofs.Laws.{first-position, leaf-below, next-position, round-once}
 use Rattle.pieces.specs.Board.{good, weight, number}
-use Rattle.pieces.specs.Placing.{placed}
+use Rattle.pieces.specs.Placing.{Placeable, fill, placed}
 use Rattle.pieces.specs.Tidying as tidying
-use Rattle.pieces.proofs.Laws.{placed-length, placed-good, placed-weight, removed-length, removed-good, removed-name}
+use Rattle.pieces.specs.Fresh.{fresh}
+use Rattle.pieces.proofs.Laws.{placed-length, placed-good, placed-weight, removed-length, removed-good, removed-name, fresh-length, fresh-good, fresh-weights, fresh-same, fresh-again}
 use Rattle.calls.specs.declared.Drive.{Drive}
 use Rattle.calls.specs.declared.Refusal.{Refusal}
 use Rattle.calls.specs.declared.Refusal.the-variants.{Room}
@@ -27,16 +29,19 @@ use Rattle.calls.specs.declared.Opened.{Opened}
 use Rattle.calls.specs.declared.Changed.{Changed}
 use Rattle.calls.specs.declared.Served.{Served}
 use Rattle.calls.specs.declared.Rounded.{Rounded}
+use Rattle.calls.specs.declared.Refreshed.{Refreshed}
 use Rattle.calls.specs.declared.Reported.{Reported}
 use Rattle.calls.specs.Records.{driveAt}
-use Rattle.calls.specs.Refusals.{Asked, numberOf, applies, firstOf, zeroOr, numbers, among, openMay, addMay, removeMay, slotMay, roundMay, reportMay, askedOpen, askedAdd, askedName, asked, askedOutput, openCheck, addCheck, removeCheck, slotCheck, changeCheck, roundCheck, reportCheck, goodCheck}
-use Rattle.calls.specs.Answers.{Answer, beside, openingAnswer, changeAnswer, servingAnswer, roundingAnswer, reportAnswer}
-use Rattle.calls.specs.Results.{ifClear, changeBy, admittedBy, openedAnswer, addedIdle, addedAnswer, addedBoard, removedIdle, removedAnswer, removedBoard, servedAnswer, slotNames, roundNames, roundedAnswer, reportedSpacing, reportedAnswer}
+use Rattle.calls.specs.Refusals.{Asked, numberOf, applies, firstOf, zeroOr, numbers, among, openMay, addMay, removeMay, slotMay, roundMay, reportMay, changeMay, askedOpen, askedAdd, askedName, asked, askedOutput, openCheck, addCheck, removeCheck, slotCheck, changeCheck, roundCheck, reportCheck, goodCheck, newCheck}
+use Rattle.calls.specs.Answers.{Answer, beside, openingAnswer, changeAnswer, servingAnswer, roundingAnswer, refreshingAnswer, reportAnswer}
+use Rattle.calls.specs.Results.{idleBoard, ifClear, changeBy, admittedBy, openedAnswer, addedIdle, addedAnswer, addedBoard, removedIdle, removedAnswer, removedBoard, refreshedAnswer, refreshedBoard, servedAnswer, slotNames, roundNames, roundedAnswer, reportedSpacing, reportedAnswer}
 use Rattle.calls.proofs.Checking.{by-bool, change-parts, change-slot, change-start, add-change, add-clear, add-weight, remove-change, remove-clear, remove-held}
 use Rattle.calls.proofs.Calling.{unique, Refuses, refuses, refusal, may, first-within, first-among, never-within, and-both}
 use Rattle.calls.specs.Spacing.{roundedUp}
 use Rattle.calls.proofs.Spaced as spaced
-use Rattle.calls.specs.Promises.{Opens, Adds, Removes, Serves, Rounds, Reports}
+use Rattle.calls.proofs.Checking.{admit-parts}
+use Rattle.calls.proofs.Writing.{idle-none, idle-next}
+use Rattle.calls.specs.Promises.{Opens, Adds, Removes, Refreshes, Serves, Rounds, Reports}
 -- ---- what is known once the checks of a call are clear
 
 unfoldable pub use Rattle.calls.proofs.Checking.{Passed}
@@ -61,7 +66,7 @@ unfoldable pub ascending : ℕ → List Refusal → Bool
 ascending n [] = true
 ascending n (r ∷ rs) = ltb n (numberOf r) && ascending (numberOf r) rs
 
-pub lists-ascending : (ascending 0 openMay && ascending 0 addMay && ascending 0 removeMay && ascending 0 slotMay && ascending 0 roundMay && ascending 0 reportMay) ≡ true
+pub lists-ascending : (ascending 0 openMay && ascending 0 addMay && ascending 0 removeMay && ascending 0 slotMay && ascending 0 roundMay && ascending 0 reportMay && ascending 0 changeMay) ≡ true
 unfolding ascending
 lists-ascending = refl
 
@@ -171,6 +176,22 @@ module _ (d : Drive) (B : List ℕ) (x : ℕ) where
   pub remove-may : {r : Changed} {E : List ℕ} → Removes d B x r E → among (changeAnswer (r .answer) .number) removeMay ≡ true
   remove-may p = may removeMay (p .1) remove-answers
 
+-- ---- the fresh layout
+
+module _ (d : Drive) (B : List ℕ) where
+  pub fresh-unique : {r s : Refreshed} {E F : List ℕ} → Refreshes d B r E → Refreshes d B s F → (r ≡ s) × (E ≡ F)
+  fresh-unique p q = (unique (p .0) (q .0), unique (p .2) (q .2))
+
+  pub fresh-refused : {r : Refreshed} {E : List ℕ} → Refreshes d B r E → Refuses (refreshingAnswer (r .answer)) → (r .drive ≡ d) × (E ≡ B)
+  fresh-refused p h = rw (p .0, p .2, refusal (changeCheck d B) (refuses (p .1) h) .1) (refl, refl)
+
+  pub fresh-answers : among (refreshedAnswer d B .number) changeMay ≡ true
+  unfolding changeCheck
+  fresh-answers = first-among changeMay (asked d B)
+
+  pub fresh-may : {r : Refreshed} {E : List ℕ} → Refreshes d B r E → among (refreshingAnswer (r .answer) .number) changeMay ≡ true
+  fresh-may p = may changeMay (p .1) fresh-answers
+
 -- ---- slot
 
 module _ (d : Drive) (B : List ℕ) where
@@ -248,6 +269,29 @@ module _ (d : Drive) (B : List ℕ) where
           let clear = remove-change d B x e in
           good-again (tidying.removed (d .capacity) B x) (removed-length (d .capacity) B x may) (removed-good (d .capacity) B x may) clear ∙ sym clear
 
+  -- an add that can be placed passes its checks where these pass
+  pub add-passes : (x w : ℕ) → changeCheck d B ≡ Clear → Placeable (d .capacity) B x w → 0 < w → addCheck d B x w ≡ Clear
+  unfolding newCheck
+  add-passes x w e may some =
+      add-parts d B x w
+      ∙ rw (
+        admit-parts d B x w,
+        e,
+        ne-eqb x 0 (may .named),
+        ne-eqb w 0 (λ z. omega arith),
+        le-ltb 0 (weight (d .capacity) B x) (omega (arith, may .absent)),
+        le-ltb (weight (d .capacity) B 0) w (may .room),
+      ) refl
+
+  pub fresh-keeps : changeCheck d (refreshedBoard d B) ≡ changeCheck d B
+  fresh-keeps = go (changeCheck d B) refl
+    where
+      go : (k : Check) → changeCheck d B ≡ k → changeCheck d (ifClear k (fresh (d .capacity) B) B) ≡ changeCheck d B
+      go (Refused r) e = refl
+      go Clear e =
+          let s = slot-sized d B (change-slot d B e) in
+          good-again (fresh (d .capacity) B) (fresh-length (d .capacity) B (s .few) (s .long)) (fresh-good (d .capacity) B (s .few) (s .long)) e ∙ sym e
+
 -- ---- "a leaf holds the name"
 
 pub held-leaf : (C : ℕ) (B : List ℕ) (x : ℕ) → 0 < weight C B x → (i : ℕ) × (i < C) × (getD B i 0 ≡ x)
@@ -279,6 +323,19 @@ unfolding slotNames
 round-tells C B D few e i h =
     mapped (λ leaf. getD B leaf 0) (λ leaf. getD D leaf 0) (leavesFrom C 1 C) i e (omega (arith, round-once C i few h))
 
+-- and hangs on the leaves alone
+
+names-same : (C : ℕ) (B D : List ℕ) → ((i : ℕ) → i < C → getD B i 0 ≡ getD D i 0) → (n p : ℕ) → Position C p
+    → map (λ leaf. getD B leaf 0) (leavesFrom C p n) ≡ map (λ leaf. getD D leaf 0) (leavesFrom C p n)
+unfolding leavesFrom
+names-same C B D same zero p at = refl
+names-same C B D same (suc n) p at =
+    rw (same (leafAt C (servedFrom C p)) (leaf-below C p at), names-same C B D same n (nextFrom C p) (next-position C p at)) refl
+
+pub round-same : (C : ℕ) (B D : List ℕ) → zero < C → C < 4096 → ((i : ℕ) → i < C → getD B i 0 ≡ getD D i 0) → roundNames C B ≡ roundNames C D
+unfolding slotNames
+round-same C B D some few same = names-same C B D same C 1 (first-position C some few)
+
 -- so a change that is done shows in the next round
 
 weight-same : (C : ℕ) (B D : List ℕ) (x : ℕ) → ((i : ℕ) → i < C → getD B i 0 ≡ getD D i 0) → weight C B x ≡ weight C D x
@@ -300,6 +357,47 @@ remove-shows d B x e r =
     let s = weight-same (d .capacity) (tidying.removed (d .capacity) B x) B x (round-tells (d .capacity) _ _ (omega (arith, p .small)) f) in
     let h = remove-held d B x e in
     omega (arith, removed-name (d .capacity) B x p)
+
+-- ---- what the fresh layout does
+
+-- An opened board is one with its leaves idle.
+pub idle-opened : (n : ℕ) (B : List ℕ) → n ≤ length B → fill B 0 n 0 ≡ idleBoard n B
+unfolding fill
+idle-opened zero B h = idle-none B
+idle-opened (suc n) B h = rw (zero-add n, idle-opened n B (omega arith)) (idle-next B n h)
+
+module _ (d : Drive) (B : List ℕ) where
+  -- Every stream keeps its weight, and as many leaves are idle.
+  pub fresh-held : (x : ℕ) → weight (d .capacity) (refreshedBoard d B) x ≡ weight (d .capacity) B x
+  fresh-held x = go (changeCheck d B) refl
+    where
+      go : (k : Check) → changeCheck d B ≡ k → weight (d .capacity) (ifClear k (fresh (d .capacity) B) B) x ≡ weight (d .capacity) B x
+      go (Refused r) e = refl
+      go Clear e = let s = slot-sized d B (change-slot d B e) in fresh-weights (d .capacity) B (s .few) (s .long) x
+
+  -- Doing it again changes nothing.
+  pub fresh-twice : refreshedBoard d (refreshedBoard d B) ≡ refreshedBoard d B
+  fresh-twice = go (changeCheck d B) refl
+    where
+      go : (k : Check) → changeCheck d B ≡ k → refreshedBoard d (refreshedBoard d B) ≡ refreshedBoard d B
+      go (Refused r) e = rw (e, e) refl
+      go Clear e =
+          let s = slot-sized d B (change-slot d B e) in
+          rw (fresh-keeps d B, e) (fresh-again (d .capacity) B (s .few) (s .long))
+
+-- Equal streams and weights give equal leaves, and so equal rounds, whatever boards they stood on.
+module _ (d d′ : Drive) (B B′ : List ℕ) (size : d .capacity ≡ d′ .capacity) (clear : changeCheck d B ≡ Clear) (clear′ : changeCheck d′ B′ ≡ Clear)
+    (same : (x : ℕ) → (x ≡ 0 → ⊥) → weight (d .capacity) B x ≡ weight (d .capacity) B′ x) where
+  pub fresh-equal : (i : ℕ) → i < d .capacity → getD (refreshedBoard d B) i 0 ≡ getD (refreshedBoard d′ B′) i 0
+  fresh-equal =
+      let s = slot-sized d B (change-slot d B clear) in
+      let t = slot-sized d′ B′ (change-slot d′ B′ clear′) in
+      rw (clear, clear′, ← size) (fresh-same (d .capacity) B B′ (s .long) (rw (← size) at (t .long)) same)
+
+  pub fresh-rounds : roundNames (d .capacity) (refreshedBoard d B) ≡ roundNames (d .capacity) (refreshedBoard d′ B′)
+  fresh-rounds =
+      let s = slot-sized d B (change-slot d B clear) in
+      round-same (d .capacity) (refreshedBoard d B) (refreshedBoard d′ B′) (s .some) (omega (arith, s .few)) fresh-equal
 
 -- ---- the spacing that is reported
 

@@ -109,7 +109,7 @@ roundMay = Capacity ∷ Short ∷ Position ∷ Output ∷ []
 abbrev pub reportMay : List Refusal
 reportMay = Capacity ∷ Short ∷ Position ∷ Damaged ∷ Name ∷ Absent ∷ []
 
--- What add and remove have in common.
+-- What add and remove have in common; the fresh layout may answer just these.
 abbrev pub changeMay : List Refusal
 changeMay = Capacity ∷ Short ∷ Position ∷ Midround ∷ Damaged ∷ []
 

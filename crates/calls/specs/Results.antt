@@ -11,10 +11,11 @@ use Rattle.sequences.specs.Serving.{leavesFrom}
 use Rattle.pieces.specs.Board.{weight, number}
 use Rattle.pieces.specs.Placing as placing
 use Rattle.pieces.specs.Tidying as tidying
+use Rattle.pieces.specs.Fresh as layout
 use Rattle.calls.specs.Records.{driveAt, movedTo}
 use Rattle.calls.specs.Answers.{Answer, answered, answeredWith, beside}
 use Rattle.calls.specs.Spacing.{spacingIn}
-use Rattle.calls.specs.Refusals.{numberOf, openCheck, addCheck, removeCheck, slotCheck, roundCheck, reportCheck}
+use Rattle.calls.specs.Refusals.{numberOf, openCheck, addCheck, removeCheck, slotCheck, roundCheck, reportCheck, changeCheck}
 use Rattle.calls.specs.declared.Drive.{Drive}
 use Rattle.calls.specs.declared.Refusal.{Refusal}
 use Rattle.calls.specs.declared.Check.{Check}
@@ -31,6 +32,9 @@ use Rattle.calls.specs.declared.Serving.the-variants as serving
 use Rattle.calls.specs.declared.Rounded.{Rounded}
 use Rattle.calls.specs.declared.Rounding.{Rounding}
 use Rattle.calls.specs.declared.Rounding.the-variants as rounding
+use Rattle.calls.specs.declared.Refreshed.{Refreshed}
+use Rattle.calls.specs.declared.Refreshing.{Refreshing}
+use Rattle.calls.specs.declared.Refreshing.the-variants as refreshing
 use Rattle.calls.specs.declared.Reported.{Reported}
 use Rattle.calls.specs.declared.Report.{Report}
 use Rattle.calls.specs.declared.Report.the-variants as report
@@ -64,6 +68,10 @@ servingBy (Refused r) name leaf passed round = serving.Refused r
 abbrev pub roundingBy : Check → Rounding
 roundingBy Clear = rounding.Done
 roundingBy (Refused r) = rounding.Refused r
+
+abbrev pub refreshingBy : Check → Refreshing
+refreshingBy Clear = refreshing.Done
+refreshingBy (Refused r) = refreshing.Refused r
 
 abbrev pub reportBy : Check → ℕ → ℕ → ℕ → Report
 reportBy Clear weight pieces spacing = report.Stream weight pieces spacing
@@ -118,6 +126,16 @@ removed d B x = let idle = removedIdle d B x in record { drive = d; answer = cha
 
 abbrev pub removedAnswer : Drive → List ℕ → ℕ → Answer
 removedAnswer d B x = let idle = removedIdle d B x in answered (removeCheck d B x) (idle ∷ [])
+
+-- fresh layout: as if every stream had been added to an opened board by falling weight, then rising name.
+abbrev pub refreshedBoard : Drive → List ℕ → List ℕ
+refreshedBoard d B = let done = layout.fresh (d .capacity) B in ifClear (changeCheck d B) done B
+
+abbrev pub refreshed : Drive → List ℕ → Refreshed
+refreshed d B = record { drive = d; answer = refreshingBy (changeCheck d B) }
+
+abbrev pub refreshedAnswer : Drive → List ℕ → Answer
+refreshedAnswer d B = answered (changeCheck d B) []
 
 -- slot: the name, the leaf, the terms passed over, and the number of the round that the slot belongs to, which is the record's before p moves on.
 abbrev pub servedLeaf : Drive → ℕ

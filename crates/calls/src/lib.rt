@@ -1,4 +1,4 @@
-// The calls on one drive's slot board: open, add, remove, slot, round, report, and the refusals of document 01.
+// The calls on one drive's slot board: open, add, remove, slot, round, report, the fresh layout, and the refusals of document 01.
 ghost use mathlib.Core.Path.{_≡_};
 ghost use mathlib.Core.List.{_++_};
 ghost use Prim.Native.Nat.{_≤_};
@@ -131,6 +131,17 @@ pub struct Reported {
     pub answer: Report,
 }
 
+// The answer of the fresh layout.
+pub enum Refreshing {
+    Done,
+    Refused(Refusal),
+}
+
+pub struct Refreshed {
+    pub drive: Drive,
+    pub answer: Refreshing,
+}
+
 impl Drive {
     // The largest capacity.
     pub const LARGEST: usize = 4095;
@@ -250,6 +261,25 @@ impl Drive {
             Check::Clear => {
                 pieces::remove(board, self.capacity as usize, name);
                 self.counted(board)
+            }
+        }
+    }
+
+    // Lays the board out afresh: as if every stream had been added to an opened board by falling weight, then rising name.
+    pub fn fresh(self, board: &mut [u16]) -> Refreshed
+        ensures { λ r. ⌜ promises.Refreshes self (now (board .entry)) r (now (board .exit)) ⌝ }
+    {
+        match self.check_change(board) {
+            Check::Refused(r) => Refreshed {
+                drive: self,
+                answer: Refreshing::Refused(r),
+            },
+            Check::Clear => {
+                pieces::lay_out(board, self.capacity as usize);
+                Refreshed {
+                    drive: self,
+                    answer: Refreshing::Done,
+                }
             }
         }
     }

@@ -7,7 +7,7 @@ use mathlib.Core.List.{List, [], _∷_, _++_}
 use Prim.Native.Nat.{ℕ, zero, _+_, _-_, _*_, _/_, _%_, _^_, _≤_, _<_}
 use native.Mathlib.Omega.{arith}
 use lib.Count.{ones}
-use lib.Dec.{ltb}
+use lib.Dec.{eqb, ltb}
 use lib.ListN.{length, getD, replicate}
 use Rattle.sequences.specs.Scanning.{roundLeaves}
 use Rattle.sequences.specs.Board.{passedFrom, servedFrom, nextFrom}
@@ -19,25 +19,27 @@ use Rattle.pieces.proofs.Laws.{pieces-ones}
 use Rattle.calls.specs.declared.Drive.{Drive}
 use Rattle.calls.specs.declared.Check.the-variants.{Clear}
 use Rattle.calls.specs.Records.{driveAt, roundAfter}
-use Rattle.calls.specs.Refusals.{numberOf, firstOf, among, askedAdd, openMay, removeMay, slotMay, roundMay, reportMay, openCheck, addCheck, removeCheck, slotCheck, roundCheck, reportCheck}
+use Rattle.calls.specs.Refusals.{numberOf, firstOf, among, askedAdd, openMay, removeMay, slotMay, roundMay, reportMay, changeMay, openCheck, addCheck, removeCheck, slotCheck, roundCheck, reportCheck, changeCheck}
 use Rattle.calls.specs.Answers.{beside}
 use Rattle.calls.specs.Results.{openedAnswer, slotNames, roundNames}
-use Rattle.calls.proofs.Laws.{clear-number, refusal, open-answers, add-answers, remove-answers, slot-answers, round-answers, report-answers, open-clear, slot-position}
-use Rattle.demands.specs.Histories.{Act, Add, Remove, Slot, Round, Report, State, Openable, does, says, opens, after, reach, log}
+use Rattle.calls.proofs.Laws.{clear-number, refusal, open-answers, add-answers, remove-answers, slot-answers, round-answers, report-answers, fresh-answers, open-clear, slot-sized, slot-position, change-slot, fresh-twice}
+use Rattle.demands.specs.Histories.{Act, Add, Remove, Slot, Round, Report, Fresh, State, Openable, does, says, opens, after, reach, log}
 use Rattle.demands.specs.Refusing.{mayAnswer, lent, writes, refusedValues, otherChecks}
-use Rattle.demands.specs.Holdings.{isChange, held, heldOf, total}
+use Rattle.demands.specs.Holdings.{Stream, isChange, changesBoard, heldFrom, held, heldOf, total}
 use Rattle.demands.specs.Rounds.{names, namesFrom, FullRound, InTurn, inARow, times, namesOn, Near, bound, demanded}
 use Rattle.demands.specs.Stretches.{Still, PowerOfTwo, PowerFair, StillFair}
+use Rattle.demands.specs.Layouts.{streamAdds, AllDone}
 use Rattle.demands.specs.Certificates.{certificates, ofSlot, slotsIn, Every, ToldRound}
 use Rattle.demands.proofs.Checks.{clash}
 use Rattle.demands.proofs.Answering.{beside-says, zeros-say, done-idle}
 use Rattle.demands.proofs.Valid.{Valid, slot-clear, clear-valid}
-use Rattle.demands.proofs.Reached.{Sound, after-one, opened-clear, always}
+use Rattle.demands.proofs.Reached.{Sound, after-one, held-append, same-either, opened-clear, always}
 use Rattle.demands.proofs.Rows.{full-names, slots-length, slots-full}
 use Rattle.demands.proofs.Numbering.{moves}
 use Rattle.demands.proofs.Told.{full-number, full-over, number-counted, certificate-at, one-slot, full-told, told-full}
 use Rattle.demands.proofs.Stretching.{slots-still, still-board, served-power, served-still}
-use Rattle.demands.proofs.Standing.{never-damaged, midround, others-pass, room, room-told, room-asked, served-round, served-fair}
+use Rattle.demands.proofs.Laying.{fresh-adds, fresh-equal, fresh-rounds}
+use Rattle.demands.proofs.Standing.{never-damaged, midround, fresh-passes, others-pass, room, room-told, room-asked, served-round, served-fair}
 
 -- ---- Demand 1
 
@@ -63,6 +65,9 @@ demand-1 (Round O) s =
 demand-1 (Report x) s =
     let m = report-answers (s .drive) (s .board) x in
     (m, λ n. let e = refusal (reportCheck (s .drive) (s .board) x) n .1 in (refl, refl, zeros-say reportMay s (says (Report x) s) m refl (rw e refl)))
+demand-1 Fresh s =
+    let m = fresh-answers (s .drive) (s .board) in
+    (m, λ n. let e = refusal (changeCheck (s .drive) (s .board)) n .1 in (rw e refl, refl, zeros-say changeMay s (says Fresh s) m refl (rw e refl)))
 
 -- So does open; refused, it gives a record with C and p zero, and the board as it was.
 pub demand-1-open : (C : ℕ) (B : List ℕ)
@@ -136,6 +141,7 @@ record-kept (Remove x) s other = refl
 record-kept Slot s other = absurd (other refl)
 record-kept (Round O) s other = refl
 record-kept (Report x) s other = refl
+record-kept Fresh s other = refl
 
 -- The slots of a full round say one number, the record's at its first slot.
 pub round-one-number : (s : State) (rest : List Act) → says Slot s .number ≡ 0 → FullRound s rest → Every (λ k. k ≡ s .drive .round) (certificates (log s (Slot ∷ rest)))
@@ -173,8 +179,8 @@ module _ (C : ℕ) (B : List ℕ) (may : Openable C B) (acts : List Act) where
   pub demand-3-slot : says Slot (reach C B acts) .number ≡ 0
   demand-3-slot = rw (slot-clear (reach C B acts) (r .valid)) refl
 
-  -- Within a round an add and a remove are refused for MIDROUND, and change nothing.
-  pub demand-3-midround : (a : Act) → isChange a ≡ true → (reach C B acts .drive .position ≡ 1 → ⊥) → (says a (reach C B acts) .number ≡ 4) × (does a (reach C B acts) ≡ reach C B acts)
+  -- Within a round an add, a remove and a fresh layout are refused for MIDROUND, and change nothing.
+  pub demand-3-midround : (a : Act) → changesBoard a ≡ true → (reach C B acts .drive .position ≡ 1 → ⊥) → (says a (reach C B acts) .number ≡ 4) × (does a (reach C B acts) ≡ reach C B acts)
   demand-3-midround = midround (reach C B acts) (held C B acts) r
 
   -- The weights held are never more than C,
@@ -227,6 +233,7 @@ module _ (C : ℕ) (B : List ℕ) (may : Openable C B) (acts : List Act) where
       go Slot e h = clash e refl
       go (Round O) e h = clash e refl
       go (Report x) e h = clash e refl
+      go Fresh e h = clash e refl
 
   -- At the start of a round the next C slots are a full round.
   pub demand-3-full : reach C B acts .drive .position ≡ 1 → FullRound (reach C B acts) (replicate (C - 1) Slot)
@@ -299,3 +306,49 @@ module _ (C : ℕ) (B : List ℕ) (may : Openable C B) (acts : List Act) where
     pub still-fair : StillFair C (held C B acts) (names (log (reach C B acts) rest))
     still-fair =
         subst (λ (c : ℕ). StillFair c (held C B acts) (names (log (reach C B acts) rest))) (capacity acts) (served-still (reach C B acts) (held C B acts) r rest still)
+
+-- ---- Request No. 12
+
+-- A fresh layout that is done leaves the board of an open and of an add for each stream, by falling weight, then rising name, every one of them done; the record
+-- is as it was.
+pub fresh-layout : (s : State) → says Fresh s .number ≡ 0
+    → let C = s .drive .capacity in
+    let B = s .board in
+    (does Fresh s ≡ record { drive = s .drive; board = reach C B (streamAdds C B) .board }) × AllDone (log (opens C B) (streamAdds C B))
+fresh-layout s done =
+    let C = s .drive .capacity in
+    let B = s .board in
+    let e = clear-number (changeCheck (s .drive) B) done in
+    let z = slot-sized (s .drive) B (change-slot (s .drive) B e) in
+    let f = fresh-adds C B (record { some = z .some; few = z .few; long = z .long }) in
+    (rw (e, f .0) refl, f .1)
+
+-- Doing it again changes nothing.
+pub fresh-again : (s : State) → does Fresh (does Fresh s) ≡ does Fresh s
+fresh-again s = ap (λ (D : List ℕ). record { drive = s .drive; board = D }) (fresh-twice (s .drive) (s .board))
+
+module _ (C : ℕ) (B : List ℕ) (may : Openable C B) (acts : List Act) where
+  -- In every history it is done at the start of a round,
+  pub fresh-done : reach C B acts .drive .position ≡ 1 → says Fresh (reach C B acts) .number ≡ 0
+  fresh-done start = rw (fresh-passes (reach C B acts) (held C B acts) (always C B may acts) start) refl
+
+  -- and changes nothing that is held, so that demand 3 goes on after it.
+  pub fresh-held : held C B (acts ++ (Fresh ∷ [])) ≡ held C B acts
+  unfolding heldFrom log
+  fresh-held = held-append [] (opens C B) acts (Fresh ∷ []) ∙ same-either (eqb (says Fresh (reach C B acts) .number) 0) (held C B acts)
+
+  -- Two histories that hold the same, whatever acts they are of, come by it to equal leaves and to equal rounds.
+  module _ (B′ : List ℕ) (may′ : Openable C B′) (acts′ : List Act) (start : reach C B acts .drive .position ≡ 1) (start′ : reach C B′ acts′ .drive .position ≡ 1)
+      (same : (x : ℕ) → (x ≡ 0 → ⊥) → heldOf x (held C B acts) ≡ heldOf x (held C B′ acts′)) where
+    size : reach C B acts .drive .capacity ≡ reach C B′ acts′ .drive .capacity
+    size = capacity C B may acts acts ∙ sym (capacity C B′ may′ acts′ acts′)
+
+    pub fresh-leaves : (i : ℕ) → i < C → getD (does Fresh (reach C B acts) .board) i 0 ≡ getD (does Fresh (reach C B′ acts′) .board) i 0
+    fresh-leaves =
+        subst (λ (c : ℕ). (i : ℕ) → i < c → getD (does Fresh (reach C B acts) .board) i 0 ≡ getD (does Fresh (reach C B′ acts′) .board) i 0) (capacity C B may acts acts)
+        (fresh-equal (reach C B acts) (reach C B′ acts′) (held C B acts) (held C B′ acts′) (always C B may acts) (always C B′ may′ acts′) size start start′ same)
+
+    pub fresh-round : roundNames C (does Fresh (reach C B acts) .board) ≡ roundNames C (does Fresh (reach C B′ acts′) .board)
+    fresh-round =
+        subst (λ (c : ℕ). roundNames c (does Fresh (reach C B acts) .board) ≡ roundNames c (does Fresh (reach C B′ acts′) .board)) (capacity C B may acts acts)
+        (fresh-rounds (reach C B acts) (reach C B′ acts′) (held C B acts) (held C B′ acts′) (always C B may acts) (always C B′ may′ acts′) size start start′ same)

@@ -9,6 +9,7 @@ mod Rows
 mod Numbering
 mod Told
 mod Standing
+mod Laying
 mod Powers
 mod Stretching
 mod Promised

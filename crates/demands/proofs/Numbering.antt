@@ -18,7 +18,7 @@ use Rattle.calls.specs.Records.{driveAt, roundAfter}
 use Rattle.calls.specs.Refusals.{slotCheck}
 use Rattle.calls.specs.Results.{servedLeaf, movedOn}
 use Rattle.calls.proofs.Laws.{number-some}
-use Rattle.demands.specs.Histories.{Act, Add, Remove, Slot, Round, Report, State, does, says, after, log}
+use Rattle.demands.specs.Histories.{Act, Add, Remove, Slot, Round, Report, Fresh, State, does, says, after, log}
 use Rattle.demands.specs.Rounds.{names}
 use Rattle.demands.specs.Certificates.{Certificate, certificates, ofSlot, slotsIn}
 use Rattle.demands.proofs.Windows.{round-away}
@@ -46,6 +46,7 @@ drive-moves s (Add x w ∷ acts) = drive-moves (does (Add x w) s) acts
 drive-moves s (Remove x ∷ acts) = drive-moves (does (Remove x) s) acts
 drive-moves s (Round O ∷ acts) = drive-moves s acts
 drive-moves s (Report x ∷ acts) = drive-moves s acts
+drive-moves s (Fresh ∷ acts) = drive-moves (does Fresh s) acts
 drive-moves s (Slot ∷ acts) = go (slotCheck (s .drive) (s .board)) refl (drive-moves (does Slot s) acts)
   where
     go : (c : Check) → slotCheck (s .drive) (s .board) ≡ c → after (does Slot s) acts .drive ≡ driveAfter (does Slot s .drive) (slotsIn (log (does Slot s) acts))
@@ -60,6 +61,7 @@ certified s (Add x w ∷ acts) = certified (does (Add x w) s) acts
 certified s (Remove x ∷ acts) = certified (does (Remove x) s) acts
 certified s (Round O ∷ acts) = certified s acts
 certified s (Report x ∷ acts) = certified s acts
+certified s (Fresh ∷ acts) = certified (does Fresh s) acts
 certified s (Slot ∷ acts) = go (slotCheck (s .drive) (s .board)) refl (certified (does Slot s) acts)
   where
     go : (c : Check) → slotCheck (s .drive) (s .board) ≡ c

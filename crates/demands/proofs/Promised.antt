@@ -8,10 +8,11 @@ use Rattle.calls.specs.declared.Opened.{Opened}
 use Rattle.calls.specs.declared.Changed.{Changed}
 use Rattle.calls.specs.declared.Served.{Served}
 use Rattle.calls.specs.declared.Rounded.{Rounded}
+use Rattle.calls.specs.declared.Refreshed.{Refreshed}
 use Rattle.calls.specs.declared.Reported.{Reported}
-use Rattle.calls.specs.Answers.{changeAnswer, servingAnswer, roundingAnswer, reportAnswer}
-use Rattle.calls.specs.Promises.{Opens, Adds, Removes, Serves, Rounds, Reports}
-use Rattle.demands.specs.Histories.{Add, Remove, Slot, Round, Report, State, does, says, opens}
+use Rattle.calls.specs.Answers.{changeAnswer, servingAnswer, roundingAnswer, refreshingAnswer, reportAnswer}
+use Rattle.calls.specs.Promises.{Opens, Adds, Removes, Refreshes, Serves, Rounds, Reports}
+use Rattle.demands.specs.Histories.{Add, Remove, Slot, Round, Report, Fresh, State, does, says, opens}
 use Rattle.demands.specs.Refusing.{writes}
 
 -- the record and the board
@@ -39,3 +40,7 @@ module _ (d : Drive) (B : List ℕ) where
 
   pub report-kept : (x : ℕ) {r : Reported} → Reports d B x r → (state (r .drive) B ≡ does (Report x) (state d B)) × (reportAnswer (r .answer) ≡ says (Report x) (state d B))
   report-kept x p = (ap (λ (r : Reported). state (r .drive) B) (p .0), p .1)
+
+  pub fresh-kept : {E : List ℕ} {r : Refreshed} → Refreshes d B r E
+      → (state (r .drive) E ≡ does Fresh (state d B)) × (refreshingAnswer (r .answer) ≡ says Fresh (state d B))
+  fresh-kept p = (ap₂ state (ap (λ (r : Refreshed). r .drive) (p .0)) (p .2), p .1)

@@ -13,14 +13,15 @@ use Rattle.sequences.proofs.Laws.{first-position}
 use Rattle.pieces.specs.Board.{good, weight}
 use Rattle.pieces.specs.Placing.{Placeable, placed}
 use Rattle.pieces.specs.Tidying.{Removable, removed}
-use Rattle.pieces.proofs.Laws.{opened-good, placed-good, placed-weight, placed-idle, placed-others, placed-length, removed-good, removed-name, removed-idle, removed-others, removed-length}
+use Rattle.pieces.specs.Fresh.{fresh}
+use Rattle.pieces.proofs.Laws.{opened-good, placed-good, placed-weight, placed-idle, placed-others, placed-length, removed-good, removed-name, removed-idle, removed-others, removed-length, fresh-length, fresh-good, fresh-weights}
 use Rattle.calls.specs.declared.Check.{Check}
 use Rattle.calls.specs.declared.Check.the-variants.{Clear, Refused}
 use Rattle.calls.specs.Records.{driveAt}
-use Rattle.calls.specs.Refusals.{openCheck, addCheck, removeCheck}
+use Rattle.calls.specs.Refusals.{openCheck, addCheck, removeCheck, changeCheck}
 use Rattle.calls.specs.Results.{idleBoard, movedOn}
 use Rattle.calls.proofs.Laws.{number-some, open-sized, add-clear, remove-clear}
-use Rattle.demands.specs.Histories.{Act, Add, Remove, Slot, Round, Report, State, Openable, does, says, after, reach, log}
+use Rattle.demands.specs.Histories.{Act, Add, Remove, Slot, Round, Report, Fresh, State, Openable, does, says, after, reach, log}
 use Rattle.demands.specs.Holdings.{Stream, without, changed, heldFrom, held, heldOf, total}
 use Rattle.demands.proofs.Valid.{Valid, stateAt, slot-clear, valid-next}
 
@@ -67,7 +68,7 @@ without-other x y (h ∷ hs) n = go (eqb (h .name) x) refl (without-other x y hs
 
 -- ---- one act
 
-same-either : (b : Bool) (hs : List Stream) → cond b hs hs ≡ hs
+pub same-either : (b : Bool) (hs : List Stream) → cond b hs hs ≡ hs
 same-either true hs = refl
 same-either false hs = refl
 
@@ -111,6 +112,18 @@ module _ (s : State) (hs : List Stream) (is : Sound s hs) where
         nameless = without-other x 0 hs (λ e. m .named (sym e)) ∙ is .nameless;
       }
 
+  laid-out : Sound (stateAt (s .drive) (fresh C B)) hs
+  laid-out =
+      let few : C ≤ 4095 = let f = is .valid .at .few in omega arith in
+      let long = is .valid .long in
+      record {
+        valid = record { at = is .valid .at; long = let l = fresh-length C B few long in omega arith };
+        fine = fresh-good C B few long;
+        idle = rw (fresh-weights C B few long 0) (is .idle);
+        names = λ y n. fresh-weights C B few long y ∙ is .names y n;
+        nameless = is .nameless;
+      }
+
   moved : Sound (stateAt (movedOn (s .drive)) (s .board)) hs
   moved = record { valid = valid-next s (is .valid); fine = is .fine; idle = is .idle; names = is .names; nameless = is .nameless }
 
@@ -131,6 +144,11 @@ module _ (s : State) (hs : List Stream) (is : Sound s hs) where
   step Slot = rw (slot-clear s (is .valid)) moved
   step (Round O) = stays (next (Round O) s hs) (same-either (eqb (says (Round O) s .number) 0) hs)
   step (Report x) = stays (next (Report x) s hs) (same-either (eqb (says (Report x) s .number) 0) hs)
+  step Fresh = go (changeCheck (s .drive) (s .board)) refl
+    where
+      go : (c : Check) → changeCheck (s .drive) (s .board) ≡ c → Sound (does Fresh s) (next Fresh s hs)
+      go Clear e = rw e laid-out
+      go (Refused r) e = rw (e, number-some r) is
 
 -- ---- any acts
 

@@ -11,11 +11,11 @@ use Rattle.sequences.specs.Board.{leafAt, servedFrom, nextFrom}
 use Rattle.sequences.specs.Serving.{leavesFrom, afterSlots, countList}
 use Rattle.sequences.proofs.Laws.{after-more-slots}
 use Rattle.calls.specs.Results.{servedName, movedOn}
-use Rattle.demands.specs.Histories.{Act, Add, Remove, Slot, Round, Report, State, does, says, after, log}
+use Rattle.demands.specs.Histories.{Act, Add, Remove, Slot, Round, Report, Fresh, State, does, says, after, log}
 use Rattle.demands.specs.Rounds.{names, namesFrom, FullRound, inARow, times, namesOn}
 use Rattle.demands.proofs.Windows.{round-away}
 use Rattle.demands.proofs.Streams.{holds}
-use Rattle.demands.proofs.Valid.{Valid, stateAt, slot-clear, valid-next, add-midround, remove-midround}
+use Rattle.demands.proofs.Valid.{Valid, stateAt, slot-clear, valid-next, add-midround, remove-midround, fresh-midround}
 
 empty : (l : List ℕ) → length l ≡ 0 → l ≡ []
 empty [] e = refl
@@ -37,6 +37,7 @@ names-append s (Slot ∷ acts) more =
     go false later served rest e = e
 names-append s (Round O ∷ acts) more = names-append s acts more
 names-append s (Report x ∷ acts) more = names-append s acts more
+names-append s (Fresh ∷ acts) more = names-append (does Fresh s) acts more
 
 -- a slot serves the name on its leaf, and the record moves on
 pub slot-names : (s : State) (acts : List Act) → Valid s
@@ -70,6 +71,9 @@ mid s (Remove x ∷ acts) i (suc n) is at away h l =
     rw q (mid s acts i (suc n) is at away h (rw q at l))
 mid s (Round O ∷ acts) i (suc n) is at away h l = mid s acts i (suc n) is at away h l
 mid s (Report x ∷ acts) i (suc n) is at away h l = mid s acts i (suc n) is at away h l
+mid s (Fresh ∷ acts) i (suc n) is at away h l =
+    let q = fresh-midround s is (λ e. round-away (s .drive .capacity) (is .at .some) (is .at .few) i away (omega arith) (sym at ∙ e)) in
+    rw q (mid s acts i (suc n) is at away h (rw q at l))
 
 -- a round from its first slot on
 round-names : (s : State) (acts : List Act) (n : ℕ) → Valid s → s .drive .position ≡ 1 → n ≤ s .drive .capacity → length (namesFrom s acts) ≡ n

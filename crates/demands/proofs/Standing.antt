@@ -14,16 +14,16 @@ use Rattle.pieces.specs.Board.{good, weight, number}
 use Rattle.calls.specs.declared.Drive.{Drive}
 use Rattle.calls.specs.declared.Refusal.the-variants.{Midround, Damaged, Name, Weight, Taken, Room}
 use Rattle.calls.specs.declared.Check.the-variants.{Clear}
-use Rattle.calls.specs.Refusals.{firstOf, applies, asked, askedAdd, askedName, askedOutput, addMay, removeMay, slotMay, roundMay, reportMay, addCheck, removeCheck, slotCheck, roundCheck, reportCheck}
+use Rattle.calls.specs.Refusals.{firstOf, applies, asked, askedAdd, askedName, askedOutput, addMay, removeMay, slotMay, roundMay, reportMay, changeMay, addCheck, removeCheck, slotCheck, roundCheck, reportCheck, changeCheck}
 use Rattle.calls.specs.Results.{addedIdle}
 use Rattle.calls.proofs.Laws.{change-start, admit-change, admit-clear, add-full}
-use Rattle.demands.specs.Histories.{Act, Add, Remove, Slot, Round, Report, State, does, says}
+use Rattle.demands.specs.Histories.{Act, Add, Remove, Slot, Round, Report, Fresh, State, does, says}
 use Rattle.demands.specs.Refusing.{otherChecks}
-use Rattle.demands.specs.Holdings.{Stream, isChange, heldOf, total}
+use Rattle.demands.specs.Holdings.{Stream, changesBoard, heldOf, total}
 use Rattle.demands.specs.Rounds.{namesFrom, FullRound, inARow, times, Near, bound}
 use Rattle.demands.proofs.Checks.{clash, none-applies, first-after}
 use Rattle.demands.proofs.Answering.{undamaged, room-number, room-says}
-use Rattle.demands.proofs.Valid.{slot-clear, add-midround, remove-midround}
+use Rattle.demands.proofs.Valid.{slot-clear, add-midround, remove-midround, fresh-midround}
 use Rattle.demands.proofs.Reached.{Sound}
 use Rattle.demands.proofs.Rows.{full-names, row, times-on}
 use Rattle.demands.proofs.Streams.{stream-fair, stream-round}
@@ -37,7 +37,7 @@ module _ (s : State) (hs : List Stream) (is : Sound s hs) where
 
   -- no answer is DAMAGED
   pub never-damaged : (a : Act) → says a s .number ≡ 5 → ⊥
-  unfolding addCheck removeCheck slotCheck roundCheck reportCheck
+  unfolding addCheck removeCheck slotCheck roundCheck reportCheck changeCheck
   never-damaged a = go a
     where
       d : Drive
@@ -52,14 +52,24 @@ module _ (s : State) (hs : List Stream) (is : Sound s hs) where
       go Slot = undamaged slotMay (asked d B) fine
       go (Round O) = undamaged roundMay (askedOutput d B (length O) C) fine
       go (Report x) = undamaged reportMay (askedName d B x) fine
+      go Fresh = undamaged changeMay (asked d B) fine
 
-  -- away from position 1 a change is refused for MIDROUND
-  pub midround : (a : Act) → isChange a ≡ true → (s .drive .position ≡ 1 → ⊥) → (says a s .number ≡ 4) × (does a s ≡ s)
+  -- away from position 1 a change and a fresh layout are refused for MIDROUND
+  pub midround : (a : Act) → changesBoard a ≡ true → (s .drive .position ≡ 1 → ⊥) → (says a s .number ≡ 4) × (does a s ≡ s)
   midround (Add x w) e away = rw (add-midround s (is .valid) away x w) (refl, refl)
   midround (Remove x) e away = rw (remove-midround s (is .valid) away x) (refl, refl)
   midround Slot e away = clash e refl
   midround (Round O) e away = clash e refl
   midround (Report x) e away = clash e refl
+  midround Fresh e away = rw (fresh-midround s (is .valid) away) (refl, refl)
+
+  -- at position 1 a fresh layout passes its checks
+  pub fresh-passes : s .drive .position ≡ 1 → changeCheck (s .drive) (s .board) ≡ Clear
+  unfolding changeCheck slotCheck applies
+  fresh-passes start =
+      let q = asked (s .drive) B in
+      first-after q slotMay (Midround ∷ Damaged ∷ []) (slot-clear s (is .valid))
+      ∙ none-applies q Midround (Damaged ∷ []) (rw start refl) (none-applies q Damaged [] (ap not (is .fine)) refl)
 
   -- at position 1 an add of a new name passes the checks beside ROOM
   pub others-pass : (x w : ℕ) → s .drive .position ≡ 1 → (x ≡ 0 → ⊥) → (w ≡ 0 → ⊥) → heldOf x hs ≡ 0 → firstOf otherChecks (askedAdd (s .drive) (s .board) x w) ≡ Clear

@@ -12,11 +12,11 @@ use Rattle.sequences.specs.Board.{Position}
 use Rattle.sequences.specs.Serving.{leavesFrom, afterSlots, countList}
 use Rattle.sequences.proofs.Laws.{after-slots-valid}
 use Rattle.pieces.specs.Board.{weight, number}
-use Rattle.calls.specs.Refusals.{addCheck, removeCheck}
+use Rattle.calls.specs.Refusals.{addCheck, removeCheck, changeCheck}
 use Rattle.calls.specs.Results.{servedName, movedOn}
 use Rattle.calls.proofs.Laws.{refusal}
-use Rattle.demands.specs.Histories.{Act, Add, Remove, Slot, Round, Report, State, does, says, after, log}
-use Rattle.demands.specs.Holdings.{Stream, isChange, heldOf}
+use Rattle.demands.specs.Histories.{Act, Add, Remove, Slot, Round, Report, Fresh, State, does, says, after, log}
+use Rattle.demands.specs.Holdings.{Stream, changesBoard, heldOf}
 use Rattle.demands.specs.Rounds.{names, inARow, times, namesOn, Near, bound, powerBound}
 use Rattle.demands.specs.Stretches.{noneDone, Still, PowerOfTwo, PowerFair, StillFair}
 use Rattle.demands.proofs.Checks.{clash}
@@ -35,10 +35,10 @@ parts true true later e = clash e refl
 parts true false later e = (λ f g. clash g refl, e)
 parts false c later e = (λ f g. clash f refl, e)
 
-still-parts : (a : Act) (s : State) (acts : List Act) → Still s (a ∷ acts) → (isChange a ≡ true → says a s .number ≡ 0 → ⊥) × Still (does a s) acts
+still-parts : (a : Act) (s : State) (acts : List Act) → Still s (a ∷ acts) → (changesBoard a ≡ true → says a s .number ≡ 0 → ⊥) × Still (does a s) acts
 unfolding noneDone log
 still-parts a s acts still =
-    let p = parts (isChange a) (eqb (says a s .number) 0) (noneDone (log (does a s) acts)) still in
+    let p = parts (changesBoard a) (eqb (says a s .number) 0) (noneDone (log (does a s) acts)) still in
     (λ change done. p .0 change (eq-eqb (says a s .number) 0 done), p .1)
 
 -- a slot before such calls
@@ -55,12 +55,13 @@ slots-still s (suc n) = slot-still s (replicate n Slot) (slots-still (does Slot 
 -- ---- what they leave and serve
 
 -- a call that is no change, and a refused one, leaves the board,
-kept : (a : Act) (s : State) → (isChange a ≡ true → says a s .number ≡ 0 → ⊥) → does a s .board ≡ s .board
+kept : (a : Act) (s : State) → (changesBoard a ≡ true → says a s .number ≡ 0 → ⊥) → does a s .board ≡ s .board
 kept (Add x w) s refused = rw (refusal (addCheck (s .drive) (s .board) x w) (refused refl) .1) refl
 kept (Remove x) s refused = rw (refusal (removeCheck (s .drive) (s .board) x) (refused refl) .1) refl
 kept Slot s refused = refl
 kept (Round O) s refused = refl
 kept (Report x) s refused = refl
+kept Fresh s refused = rw (refusal (changeCheck (s .drive) (s .board)) (refused refl) .1) refl
 
 -- and so do all of them
 pub still-board : (s : State) (acts : List Act) → Still s acts → after s acts .board ≡ s .board
@@ -88,6 +89,10 @@ still-names s (Slot ∷ acts) is still =
     (ap (λ (L : List ℕ). servedName (s .drive) (s .board) ∷ L) ih)
 still-names s (Round O ∷ acts) is still = still-names s acts is (still-parts (Round O) s acts still .1)
 still-names s (Report x ∷ acts) is still = still-names s acts is (still-parts (Report x) s acts still .1)
+still-names s (Fresh ∷ acts) is still =
+    let p = still-parts Fresh s acts still in
+    let e = refusal (changeCheck (s .drive) (s .board)) (p .0 refl) .1 in
+    rw e (still-names s acts is (rw e at (p .1)))
 
 -- ---- where the board is good, and has on it what is held
 

@@ -12,7 +12,7 @@ use Rattle.sequences.proofs.Laws.{next-position}
 use Rattle.calls.specs.declared.Drive.{Drive}
 use Rattle.calls.specs.declared.Refusal.the-variants.{Capacity, Short, Position, Midround, Damaged, Name, Weight, Taken, Absent, Room}
 use Rattle.calls.specs.declared.Check.the-variants.{Clear, Refused}
-use Rattle.calls.specs.Refusals.{applies, asked, askedAdd, askedName, slotMay, addCheck, removeCheck, slotCheck}
+use Rattle.calls.specs.Refusals.{applies, asked, askedAdd, askedName, slotMay, addCheck, removeCheck, slotCheck, changeCheck}
 use Rattle.calls.specs.Results.{movedOn}
 use Rattle.calls.proofs.Laws.{slot-sized, slot-position}
 use Rattle.demands.specs.Histories.{Slot, State, does}
@@ -51,7 +51,7 @@ module _ (s : State) where
   pub valid-next : Valid s → Valid (stateAt (movedOn (s .drive)) (s .board))
   valid-next is = record { at = next-position (s .drive .capacity) (s .drive .position) (is .at); long = is .long }
 
-  -- away from position 1 an add and a remove are refused for MIDROUND
+  -- away from position 1 an add, a remove and a fresh layout are refused for MIDROUND
   pub add-midround : Valid s → (s .drive .position ≡ 1 → ⊥) → (x w : ℕ) → addCheck (s .drive) (s .board) x w ≡ Refused Midround
   unfolding addCheck slotCheck applies
   add-midround is away x w =
@@ -62,4 +62,10 @@ module _ (s : State) where
   unfolding removeCheck slotCheck applies
   remove-midround is away x =
       first-after (askedName (s .drive) (s .board) x) slotMay (Midround ∷ Damaged ∷ Name ∷ Absent ∷ []) (slot-clear is)
+      ∙ rw (ne-eqb (s .drive .position) 1 away) refl
+
+  pub fresh-midround : Valid s → (s .drive .position ≡ 1 → ⊥) → changeCheck (s .drive) (s .board) ≡ Refused Midround
+  unfolding changeCheck slotCheck applies
+  fresh-midround is away =
+      first-after (asked (s .drive) (s .board)) slotMay (Midround ∷ Damaged ∷ []) (slot-clear is)
       ∙ rw (ne-eqb (s .drive .position) 1 away) refl

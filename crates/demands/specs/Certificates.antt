@@ -7,7 +7,7 @@ use Prim.Native.Nat.{ℕ, _<_}
 use lib.Dec.{eqb}
 use lib.ListN.{length, getD}
 use Rattle.calls.specs.Answers.{Answer}
-use Rattle.demands.specs.Histories.{Act, Add, Remove, Slot, Round, Report, State, Event, after, log}
+use Rattle.demands.specs.Histories.{Act, Add, Remove, Slot, Round, Report, Fresh, State, Event, after, log}
 use Rattle.demands.specs.Rounds.{names}
 
 -- The round and the slot: the number that the slot says, and its leaf.
@@ -22,6 +22,7 @@ certifiedBy (Remove x) a later = later
 certifiedBy Slot a later = cond (eqb (a .number) 0) (record { round = getD (a .values) 3 0; leaf = getD (a .values) 1 0 } ∷ later) later
 certifiedBy (Round O) a later = later
 certifiedBy (Report x) a later = later
+certifiedBy Fresh a later = later
 
 -- The certificates of the slots of events, in their order.
 unfoldable pub certificates : List Event → List Certificate

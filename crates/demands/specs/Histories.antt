@@ -6,15 +6,17 @@ use Prim.Native.Nat.{ℕ, _≤_, _<_}
 use lib.ListN.{length}
 use Rattle.calls.specs.declared.Drive.{Drive}
 use Rattle.calls.specs.Answers.{Answer}
-use Rattle.calls.specs.Results.{opened, openedBoard, added, addedBoard, addedAnswer, removed, removedBoard, removedAnswer, served, servedAnswer, rounded, roundedAnswer, reported, reportedAnswer}
+use Rattle.calls.specs.Results.{opened, openedBoard, added, addedBoard, addedAnswer, removed, removedBoard, removedAnswer, served, servedAnswer, rounded, roundedAnswer, reported, reportedAnswer, refreshed, refreshedBoard, refreshedAnswer}
 
--- A call, with what it is given beside the record and the board: a name and a weight, a name, nothing, the lent output, a name.
+-- A call, with what it is given beside the record and the board: a name and a weight, a name, nothing, the lent output, a name,
+-- nothing (the fresh layout, request No. 12).
 pub data Act : Type 0 where
   Add : ℕ → ℕ → Act
   Remove : ℕ → Act
   Slot : Act
   Round : List ℕ → Act
   Report : ℕ → Act
+  Fresh : Act
 
 -- The record and the board between two calls.
 pub record State : Type 0 where
@@ -28,6 +30,7 @@ does (Remove x) s = record { drive = removed (s .drive) (s .board) x .drive; boa
 does Slot s = record { drive = served (s .drive) (s .board) .drive; board = s .board }
 does (Round O) s = record { drive = rounded (s .drive) (s .board) O .drive; board = s .board }
 does (Report x) s = record { drive = reported (s .drive) (s .board) x .drive; board = s .board }
+does Fresh s = record { drive = refreshed (s .drive) (s .board) .drive; board = refreshedBoard (s .drive) (s .board) }
 
 -- What it says: document 01's number and values.
 abbrev pub says : Act → State → Answer
@@ -36,6 +39,7 @@ says (Remove x) s = removedAnswer (s .drive) (s .board) x
 says Slot s = servedAnswer (s .drive) (s .board)
 says (Round O) s = roundedAnswer (s .drive) (s .board) O
 says (Report x) s = reportedAnswer (s .drive) (s .board) x
+says Fresh s = refreshedAnswer (s .drive) (s .board)
 
 -- The record and the board after open.
 abbrev pub opens : ℕ → List ℕ → State

@@ -4,7 +4,7 @@ use mathlib.Core.Bool.{Bool, true, false, cond}
 use mathlib.Core.List.{List, [], _∷_}
 use Prim.Native.Nat.{ℕ, _+_}
 use lib.Dec.{eqb}
-use Rattle.demands.specs.Histories.{Act, Add, Remove, Slot, Round, Report, Event, opens, log}
+use Rattle.demands.specs.Histories.{Act, Add, Remove, Slot, Round, Report, Fresh, Event, opens, log}
 
 -- A name and the weight it holds.
 pub record Stream : Type 0 where
@@ -23,6 +23,7 @@ changed (Remove x) hs = without x hs
 changed Slot hs = hs
 changed (Round O) hs = hs
 changed (Report x) hs = hs
+changed Fresh hs = hs
 
 -- Only these change what is held, and answer the idle leaves.
 abbrev pub isChange : Act → Bool
@@ -31,6 +32,16 @@ isChange (Remove x) = true
 isChange Slot = false
 isChange (Round O) = false
 isChange (Report x) = false
+isChange Fresh = false
+
+-- Only these change the board.
+abbrev pub changesBoard : Act → Bool
+changesBoard (Add x w) = true
+changesBoard (Remove x) = true
+changesBoard Slot = false
+changesBoard (Round O) = false
+changesBoard (Report x) = false
+changesBoard Fresh = true
 
 -- What is held after events. A refused act changes nothing.
 unfoldable pub heldFrom : List Stream → List Event → List Stream

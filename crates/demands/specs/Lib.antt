@@ -4,3 +4,4 @@ pub mod Holdings
 pub mod Rounds
 pub mod Certificates
 pub mod Stretches
+pub mod Layouts

@@ -7,10 +7,10 @@ use lib.Dec.{eqb}
 use Rattle.pieces.specs.Board.{weight}
 use Rattle.calls.specs.declared.Refusal.{Refusal}
 use Rattle.calls.specs.declared.Refusal.the-variants.{Capacity, Short, Position, Midround, Damaged, Name, Weight, Taken}
-use Rattle.calls.specs.Refusals.{addMay, removeMay, slotMay, roundMay, reportMay}
+use Rattle.calls.specs.Refusals.{addMay, removeMay, slotMay, roundMay, reportMay, changeMay}
 use Rattle.calls.specs.Answers.{Answer}
 use Rattle.calls.specs.Results.{roundedOutput}
-use Rattle.demands.specs.Histories.{Act, Add, Remove, Slot, Round, Report, State}
+use Rattle.demands.specs.Histories.{Act, Add, Remove, Slot, Round, Report, Fresh, State}
 
 -- The refusals that a call may answer.
 abbrev pub mayAnswer : Act → List Refusal
@@ -19,6 +19,7 @@ mayAnswer (Remove x) = removeMay
 mayAnswer Slot = slotMay
 mayAnswer (Round O) = roundMay
 mayAnswer (Report x) = reportMay
+mayAnswer Fresh = changeMay
 
 -- The output that a call is lent, and what it leaves there. Only round is lent one.
 abbrev pub lent : Act → List ℕ
@@ -27,6 +28,7 @@ lent (Remove x) = []
 lent Slot = []
 lent (Round O) = O
 lent (Report x) = []
+lent Fresh = []
 
 abbrev pub writes : Act → State → List ℕ
 writes (Add x w) s = []
@@ -34,6 +36,7 @@ writes (Remove x) s = []
 writes Slot s = []
 writes (Round O) s = roundedOutput (s .drive) (s .board) O
 writes (Report x) s = []
+writes Fresh s = []
 
 -- As many zeros.
 abbrev pub zeros : List ℕ → List ℕ

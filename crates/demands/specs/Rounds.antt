@@ -12,7 +12,7 @@ use Rattle.sequences.specs.Board.{digits, start, after as next}
 use Rattle.sequences.specs.Serving.{countList, serves}
 use Rattle.calls.specs.Records.{movedTo}
 use Rattle.calls.specs.Answers.{Answer}
-use Rattle.demands.specs.Histories.{Act, Add, Remove, Slot, Round, Report, State, Event, does, says, log}
+use Rattle.demands.specs.Histories.{Act, Add, Remove, Slot, Round, Report, Fresh, State, Event, does, says, log}
 
 -- The name that an act serves, before those that later acts serve: a slot that is not refused says it first.
 abbrev pub servedBy : Act → Answer → List ℕ → List ℕ
@@ -21,6 +21,7 @@ servedBy (Remove x) a later = later
 servedBy Slot a later = cond (eqb (a .number) 0) (getD (a .values) 0 0 ∷ later) later
 servedBy (Round O) a later = later
 servedBy (Report x) a later = later
+servedBy Fresh a later = later
 
 -- The names that the slots of events served, in their order.
 unfoldable pub names : List Event → List ℕ

@@ -8,19 +8,19 @@ use lib.Dec.{eqb}
 use lib.ListN.{length}
 use Rattle.pieces.specs.Board.{number}
 use Rattle.demands.specs.Histories.{Act, State, Event, log}
-use Rattle.demands.specs.Holdings.{Stream, isChange, heldOf}
+use Rattle.demands.specs.Holdings.{Stream, changesBoard, heldOf}
 use Rattle.demands.specs.Rounds.{inARow, times, Near, bound, powerBound}
 
--- A change that is done: an add or a remove that answers 0.
+-- A change of the board that is done: an add, a remove or a fresh layout that answers 0.
 abbrev pub isDone : Event → Bool
-isDone e = isChange (e .act) && eqb (e .answer .number) 0
+isDone e = changesBoard (e .act) && eqb (e .answer .number) 0
 
 -- None of them is.
 unfoldable pub noneDone : List Event → Bool
 noneDone [] = true
 noneDone (e ∷ es) = not (isDone e) && noneDone es
 
--- No change among the calls is done: each add and each remove of them is refused.
+-- No change among the calls is done: each add, each remove and each fresh layout of them is refused.
 abbrev pub Still : State → List Act → Type 0
 Still s acts = noneDone (log s acts) ≡ true
 

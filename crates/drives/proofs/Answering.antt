@@ -23,7 +23,7 @@ use Rattle.orders.specs.declared.Way.{Way}
 use Rattle.orders.specs.declared.Way.the-variants as way
 use Rattle.orders.specs.Checks.{orderCheck, waitsIf, wayBy}
 use Rattle.orders.specs.Results.{addOrder, removeOrder, carriedAnswer, carriedBoard, changedAnswerBy, boardBy, listBy}
-use Rattle.drives.specs.Checks.{sizeCheck, placeCheck, pairCheck, listCheck, bothStart, wayOf}
+use Rattle.drives.specs.Checks.{sizeCheck, placeCheck, pairCheck, listCheck, bothStart, wayOf, startCheck}
 use Rattle.drives.specs.Results.{changedAnswer}
 
 clash : {P : Type 0} {t : Bool} → t ≡ true → t ≡ false → P
@@ -45,6 +45,11 @@ pair-within a b B s =
 pub behind-within : (a b : Drive) (B : List ℕ) (ns : List ℕ) (k : Check) → covers ns (1 ∷ 2 ∷ 3 ∷ []) ≡ true → Within ns k → Within ns (andThen (pairCheck a b B false) k)
 behind-within a b B ns k c m =
     then-within ns (pairCheck a b B false) k (part-within ns (1 ∷ 2 ∷ 3 ∷ []) (pairCheck a b B false) c (pair-within a b B false)) m
+
+-- 1 to 4.
+pub four-within : (a b : Drive) (B : List ℕ) (ns : List ℕ) → covers ns (1 ∷ 2 ∷ 3 ∷ []) ≡ true → zeroOr 4 ns ≡ true → zeroOr 0 ns ≡ true → Within ns (startCheck a b B)
+unfolding startCheck
+four-within a b B ns c m z = behind-within a b B ns (refuseIf (not (bothStart a b)) Midround Clear) c (if-within ns (not (bothStart a b)) Midround Clear m z)
 
 -- An order that is to wait is answered 5, 6 or 7; a remove has no weight.
 add-order : (C : ℕ) (B : List ℕ) (x w : ℕ) → Within (5 ∷ 6 ∷ 7 ∷ []) (orderCheck C B (addOrder x w))

@@ -2,22 +2,23 @@
 -- are answered; when a change is made at once and when the list is run; that neither drive comes first; and that one is two.
 -- Assumes nothing.
 use mathlib.Core.Path.{_≡_, refl, sym, ap, _∙_}
-use mathlib.Core.Bool.{Bool, true, false, not}
+use mathlib.Core.Bool.{Bool, true, false}
 use mathlib.Core.List.{List, [], _∷_}
 use Prim.Native.Nat.{ℕ, _*_}
 use lib.ListN.{length}
 use Rattle.calls.specs.declared.Drive.{Drive}
 use Rattle.calls.specs.declared.Refusal.{Refusal}
-use Rattle.calls.specs.declared.Refusal.the-variants.{Midround}
 use Rattle.calls.specs.declared.Check.{Check}
 use Rattle.calls.specs.declared.Check.the-variants.{Clear, Refused}
 use Rattle.calls.specs.declared.Served.{Served}
 use Rattle.calls.specs.declared.Rounded.{Rounded}
+use Rattle.calls.specs.declared.Refreshed.{Refreshed}
 use Rattle.calls.specs.declared.Reported.{Reported}
-use Rattle.calls.specs.Refusals.{zeroOr, numbers, among, askedName, askedOutput, refuseIf, slotMay, roundMay, reportMay, roundCheck, reportCheck}
-use Rattle.calls.specs.Answers.{Answer, servingAnswer, roundingAnswer, reportAnswer}
+use Rattle.calls.specs.Refusals.{zeroOr, numbers, among, asked, askedName, askedOutput, slotMay, roundMay, reportMay, changeMay, roundCheck, reportCheck, changeCheck}
+use Rattle.calls.specs.Answers.{Answer, servingAnswer, roundingAnswer, refreshingAnswer, reportAnswer}
 use Rattle.calls.specs.Results.{ifClear}
-use Rattle.calls.proofs.Laws.{unique, Refuses, refuses, refusal, may, within-among, first-within, then-within, if-within, covers}
+use Rattle.calls.specs.Results as plain
+use Rattle.calls.proofs.Laws.{then-clear, unique, Refuses, refuses, refusal, may, within-among, first-within, then-within, covers}
 use Rattle.sheets.specs.declared.Saved.{Saved}
 use Rattle.sheets.specs.Sheet.{blocks}
 use Rattle.sheets.specs.Results.{saveMay, saveCheck, savingAnswer}
@@ -28,18 +29,18 @@ use Rattle.orders.specs.declared.Ordering.the-variants as ordering
 use Rattle.orders.specs.declared.Way.the-variants as way
 use Rattle.orders.specs.Answers.{orderingAnswer, listed}
 use Rattle.orders.specs.Results.{addOrder, removeOrder}
-use Rattle.drives.specs.Checks.{listCheck, lookCheck, bothStart, wayOf, startCheck, pairRoundCheck, pairReportCheck, pairSaveCheck}
-use Rattle.drives.specs.Results.{changed, changedBoard, changedList, boardThen, listThen, servedAnswer, servedBoard, servedList, roundedAnswer, reportedAnswer, savedAnswer}
-use Rattle.drives.specs.Promises.{Orders, Serves, Rounds, Reports, Saves}
+use Rattle.drives.specs.Checks.{listCheck, lookCheck, bothStart, wayOf, startCheck, pairRoundCheck, pairReportCheck, pairSaveCheck, pairFreshCheck}
+use Rattle.drives.specs.Results.{changed, changedBoard, changedList, boardThen, listThen, servedAnswer, servedBoard, servedList, roundedAnswer, reportedAnswer, savedAnswer, refreshedAnswer, refreshedBoard}
+use Rattle.drives.specs.Promises.{Orders, Serves, Rounds, Reports, Saves, Refreshes}
 use Rattle.drives.proofs.Pairs.{pair-clear, pair-swap, start-swap}
 use Rattle.drives.proofs.Alike.{ran-alike}
-use Rattle.drives.proofs.Answering.{pair-within, behind-within, start-both, add-answers, remove-answers, change-still}
+use Rattle.drives.proofs.Answering.{pair-within, behind-within, four-within, start-both, add-answers, remove-answers, change-still}
 -- ---- the checks: once they find nothing each record passes those of slot, both have one C, and nothing lent is too short; and neither record comes first
 
 pub use Rattle.drives.proofs.Pairs.{Paired, pair-clear, clear-pair, pair-vouch, pair-swap, start-swap}
 -- ---- one is two: with one record in both places each call is that of one drive
 
-pub use Rattle.drives.proofs.Single.{one-start, one-list, one-look, one-way, change-one-is-two, slot-one-is-two, round-one-is-two, report-one-is-two, save-one-is-two}
+pub use Rattle.drives.proofs.Single.{one-start, one-list, one-look, one-way, change-one-is-two, slot-one-is-two, round-one-is-two, report-one-is-two, save-one-is-two, fresh-one-is-two}
 -- ---- whose call carries an order out does not matter: only C and p are looked at
 
 pub use Rattle.drives.proofs.Alike.{add-alike, remove-alike, carried-alike, answer-alike, board-alike, all-alike, outcomes-alike, ran-alike}
@@ -73,6 +74,19 @@ module _ (a b : Drive) (B L : List ℕ) where
       go Clear e true s =
           let same = both-alike a b B (length L) e s in
           rw (← pair-swap a b B (tooShort (length L)), e, ← start-swap a b, s) (ran-alike a b (same .0) (same .1) B L)
+
+-- Nor what a fresh layout finds and leaves.
+pub fresh-swap : (a b : Drive) (B : List ℕ) → (pairFreshCheck a b B ≡ pairFreshCheck b a B) × (refreshedBoard a b B ≡ refreshedBoard b a B)
+unfolding pairFreshCheck startCheck changeCheck
+fresh-swap a b B = go (lookCheck a b B) refl (bothStart a b) refl
+  where
+    go : (k : Check) → lookCheck a b B ≡ k → (t : Bool) → bothStart a b ≡ t → (pairFreshCheck a b B ≡ pairFreshCheck b a B) × (refreshedBoard a b B ≡ refreshedBoard b a B)
+    go (Refused r) e t s = rw (← pair-swap a b B false, e) (refl, refl)
+    go Clear e false s = rw (← pair-swap a b B false, e, ← start-swap a b, s) (refl, refl)
+    go Clear e true s =
+        let p = start-both a b s in
+        let same = pair-clear a b B false e .same in
+        rw (← pair-swap a b B false, e, ← start-swap a b, s, p .0, p .1, same) (refl, refl)
 
 -- ---- add and remove
 
@@ -183,13 +197,37 @@ module _ (a b : Drive) (B O : List ℕ) where
   save-refused p h = rw (p .0, p .2, refusal (pairSaveCheck a b B (length O)) (refuses (p .1) h) .1) (refl, refl, refl)
 
   pub save-answers : among (savedAnswer a b B O .number) saveMay ≡ true
-  unfolding pairSaveCheck startCheck saveCheck covers zeroOr
+  unfolding pairSaveCheck saveCheck covers zeroOr
   save-answers =
       let ns = numbers saveMay in
       within-among saveMay (pairSaveCheck a b B (length O))
       (then-within ns (startCheck a b B) (saveCheck a B (length O))
-      (behind-within a b B ns (refuseIf (not (bothStart a b)) Midround Clear) refl (if-within ns (not (bothStart a b)) Midround Clear refl refl))
+      (four-within a b B ns refl refl refl)
       (first-within saveMay (askedOutput a B (length O) (512 * blocks (a .capacity)))))
 
   pub save-may : {r : Saved} {E : List ℕ} → Saves a b B O r E → among (savingAnswer (r .answer) .number) saveMay ≡ true
   save-may p = may saveMay (p .1) save-answers
+
+-- ---- the fresh layout
+
+module _ (a b : Drive) (B : List ℕ) where
+  pub fresh-unique : {r s : Refreshed} {E F : List ℕ} → Refreshes a b B r E → Refreshes a b B s F → (r ≡ s) × (E ≡ F)
+  fresh-unique p q = (unique (p .0) (q .0), unique (p .2) (q .2))
+
+  pub fresh-refused : {r : Refreshed} {E : List ℕ} → Refreshes a b B r E → Refuses (refreshingAnswer (r .answer)) → (r .drive ≡ a) × (E ≡ B)
+  fresh-refused p h = rw (p .0, p .2, refusal (pairFreshCheck a b B) (refuses (p .1) h) .1) (refl, refl)
+
+  pub fresh-answers : among (refreshedAnswer a b B .number) changeMay ≡ true
+  unfolding pairFreshCheck changeCheck covers zeroOr
+  fresh-answers =
+      let ns = numbers changeMay in
+      within-among changeMay (pairFreshCheck a b B)
+      (then-within ns (startCheck a b B) (changeCheck a B) (four-within a b B ns refl refl refl) (first-within changeMay (asked a B)))
+
+  pub fresh-may : {r : Refreshed} {E : List ℕ} → Refreshes a b B r E → among (refreshingAnswer (r .answer) .number) changeMay ≡ true
+  fresh-may p = may changeMay (p .1) fresh-answers
+
+  -- Where it is done it is that of one drive.
+  pub fresh-one-drive : pairFreshCheck a b B ≡ Clear → (changeCheck a B ≡ Clear) × (refreshedBoard a b B ≡ plain.refreshedBoard a B)
+  unfolding pairFreshCheck
+  fresh-one-drive e = let k = then-clear (startCheck a b B) (changeCheck a B) e in (k, rw (e, k) refl)

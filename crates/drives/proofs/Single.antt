@@ -13,7 +13,7 @@ use Rattle.calls.specs.declared.Refusal.{Refusal}
 use Rattle.calls.specs.declared.Refusal.the-variants.{Capacity, Short, Position, Midround, Damaged, Name, Absent, Output}
 use Rattle.calls.specs.declared.Check.{Check}
 use Rattle.calls.specs.declared.Check.the-variants.{Clear, Refused}
-use Rattle.calls.specs.Refusals.{applies, asked, askedName, askedOutput, firstOf, slotMay, refuseIf, andThen, openCheck, slotCheck, positionCheck, roundCheck, reportCheck}
+use Rattle.calls.specs.Refusals.{applies, asked, askedName, askedOutput, firstOf, slotMay, refuseIf, andThen, openCheck, slotCheck, positionCheck, roundCheck, reportCheck, changeCheck}
 use Rattle.calls.specs.Results as plain
 use Rattle.calls.proofs.Laws.{first-next, slot-parts}
 use Rattle.sheets.specs.Sheet.{blocks}
@@ -22,8 +22,8 @@ use Rattle.waiting.specs.declared.Order.{Order}
 use Rattle.waiting.specs.Layout.{tooShort}
 use Rattle.orders.specs.Checks as bounds
 use Rattle.orders.specs.Results as single
-use Rattle.drives.specs.Checks.{sizeCheck, placeCheck, pairCheck, listCheck, lookCheck, bothStart, wayOf, startCheck, pairRoundCheck, pairReportCheck, pairSaveCheck}
-use Rattle.drives.specs.Results.{boardThen, listThen, changed, changedAnswer, changedBoard, changedList, served, servedAnswer, servedBoard, servedList, rounded, roundedAnswer, roundedOutput, reported, reportedAnswer, saved, savedAnswer, savedOutput}
+use Rattle.drives.specs.Checks.{sizeCheck, placeCheck, pairCheck, listCheck, lookCheck, bothStart, wayOf, startCheck, pairRoundCheck, pairReportCheck, pairSaveCheck, pairFreshCheck}
+use Rattle.drives.specs.Results.{boardThen, listThen, changed, changedAnswer, changedBoard, changedList, served, servedAnswer, servedBoard, servedList, rounded, roundedAnswer, roundedOutput, reported, reportedAnswer, saved, savedAnswer, savedOutput, refreshed, refreshedAnswer, refreshedBoard}
 
 -- ---- the checks
 
@@ -86,6 +86,13 @@ module _ (d : Drive) (B : List ℕ) where
       let rs = Capacity ∷ Short ∷ Position ∷ Midround ∷ [] in
       rw (one-look, one-start d, ← first-next slotMay (Midround ∷ []) q, first-next rs (Damaged ∷ Output ∷ []) q) (again (firstOf rs q) (firstOf (Damaged ∷ Output ∷ []) q))
 
+  one-fresh : pairFreshCheck d d B ≡ changeCheck d B
+  unfolding pairFreshCheck startCheck changeCheck slotCheck applies
+  one-fresh =
+      let q = asked d B in
+      let rs = Capacity ∷ Short ∷ Position ∷ Midround ∷ [] in
+      rw (one-look, one-start d, ← first-next slotMay (Midround ∷ []) q, first-next rs (Damaged ∷ []) q) (again (firstOf rs q) (firstOf (Damaged ∷ []) q))
+
 -- ---- add and remove, slot
 
 module _ (d : Drive) (B L : List ℕ) where
@@ -113,7 +120,7 @@ module _ (d : Drive) (B L : List ℕ) where
       let k = one-list d B (length L) in
       (rw (k, one-board) refl, rw (k, one-board) refl, rw (k, one-board) refl, rw (k, one-queue) refl)
 
--- ---- round, report, save
+-- ---- round, report, save, the fresh layout
 
 module _ (d : Drive) (B : List ℕ) where
   pub round-one-is-two : (O : List ℕ)
@@ -126,3 +133,6 @@ module _ (d : Drive) (B : List ℕ) where
   pub save-one-is-two : (O : List ℕ)
       → (saved d d B O ≡ sheets.saved d B O) × (savedAnswer d d B O ≡ sheets.savedAnswer d B O) × (savedOutput d d B O ≡ sheets.savedOutput d B O)
   save-one-is-two O = let k = one-save d B (length O) in (rw k refl, rw k refl, rw k refl)
+
+  pub fresh-one-is-two : (refreshed d d B ≡ plain.refreshed d B) × (refreshedAnswer d d B ≡ plain.refreshedAnswer d B) × (refreshedBoard d d B ≡ plain.refreshedBoard d B)
+  fresh-one-is-two = let k = one-fresh d B in (rw k refl, rw k refl, rw k refl)

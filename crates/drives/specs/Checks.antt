@@ -9,7 +9,7 @@ use Rattle.calls.specs.declared.Drive.{Drive}
 use Rattle.calls.specs.declared.Refusal.the-variants.{Capacity, Short, Position, Midround}
 use Rattle.calls.specs.declared.Check.{Check}
 use Rattle.calls.specs.declared.Check.the-variants.{Clear}
-use Rattle.calls.specs.Refusals.{applies, asked, refuseIf, andThen, roundCheck, reportCheck}
+use Rattle.calls.specs.Refusals.{applies, asked, refuseIf, andThen, roundCheck, reportCheck, changeCheck}
 use Rattle.sheets.specs.Results.{saveCheck}
 use Rattle.waiting.specs.declared.Order.{Order}
 use Rattle.waiting.specs.Layout.{tooShort}
@@ -50,7 +50,7 @@ wayOf a b B L o = wayBy (listCheck a b B (length L)) (waitsIf (bothStart a b) L)
 unfoldable pub startCheck : Drive → Drive → List ℕ → Check
 startCheck a b B = andThen (lookCheck a b B) (refuseIf (not (bothStart a b)) Midround Clear)
 
--- Round, report and save: the checks of both records, and then those of the call of one drive.
+-- Round, report, save and the fresh layout: the checks of both records, and then those of the call of one drive.
 unfoldable pub pairRoundCheck : Drive → Drive → List ℕ → ℕ → Check
 pairRoundCheck a b B n = andThen (lookCheck a b B) (roundCheck a B n)
 
@@ -59,3 +59,6 @@ pairReportCheck a b B x = andThen (lookCheck a b B) (reportCheck a B x)
 
 unfoldable pub pairSaveCheck : Drive → Drive → List ℕ → ℕ → Check
 pairSaveCheck a b B n = andThen (startCheck a b B) (saveCheck a B n)
+
+unfoldable pub pairFreshCheck : Drive → Drive → List ℕ → Check
+pairFreshCheck a b B = andThen (startCheck a b B) (changeCheck a B)

@@ -7,14 +7,15 @@ use Prim.Native.Nat.{ℕ}
 use Rattle.calls.specs.declared.Drive.{Drive}
 use Rattle.calls.specs.declared.Served.{Served}
 use Rattle.calls.specs.declared.Rounded.{Rounded}
+use Rattle.calls.specs.declared.Refreshed.{Refreshed}
 use Rattle.calls.specs.declared.Reported.{Reported}
-use Rattle.calls.specs.Answers.{servingAnswer, roundingAnswer, reportAnswer}
+use Rattle.calls.specs.Answers.{servingAnswer, roundingAnswer, refreshingAnswer, reportAnswer}
 use Rattle.sheets.specs.declared.Saved.{Saved}
 use Rattle.sheets.specs.Results.{savingAnswer}
 use Rattle.waiting.specs.declared.Order.{Order}
 use Rattle.orders.specs.declared.Ordered.{Ordered}
 use Rattle.orders.specs.Answers.{orderingAnswer}
-use Rattle.drives.specs.Results.{changed, changedAnswer, changedBoard, changedList, served, servedAnswer, servedBoard, servedList, rounded, roundedAnswer, roundedOutput, reported, reportedAnswer, saved, savedAnswer, savedOutput}
+use Rattle.drives.specs.Results.{changed, changedAnswer, changedBoard, changedList, served, servedAnswer, servedBoard, servedList, rounded, roundedAnswer, roundedOutput, reported, reportedAnswer, saved, savedAnswer, savedOutput, refreshed, refreshedAnswer, refreshedBoard}
 
 abbrev pub Orders : Drive → Drive → List ℕ → List ℕ → Order → Ordered → List ℕ → List ℕ → Type 0
 Orders a b B L o r E F =
@@ -31,3 +32,6 @@ Reports a b B x r = (r ≡ reported a b B x) × (reportAnswer (r .answer) ≡ re
 
 abbrev pub Saves : Drive → Drive → List ℕ → List ℕ → Saved → List ℕ → Type 0
 Saves a b B O r E = (r ≡ saved a b B O) × (savingAnswer (r .answer) ≡ savedAnswer a b B O) × (E ≡ savedOutput a b B O)
+
+abbrev pub Refreshes : Drive → Drive → List ℕ → Refreshed → List ℕ → Type 0
+Refreshes a b B r E = (r ≡ refreshed a b B) × (refreshingAnswer (r .answer) ≡ refreshedAnswer a b B) × (E ≡ refreshedBoard a b B)

@@ -5,12 +5,14 @@ use mathlib.Core.List.{List, [], _∷_, _++_}
 use Prim.Native.Nat.{ℕ, _*_}
 use lib.ListN.{length, drop}
 use Rattle.pieces.specs.Board.{weight, number}
+use Rattle.pieces.specs.Fresh as layout
 use Rattle.calls.specs.declared.Drive.{Drive}
 use Rattle.calls.specs.declared.Served.{Served}
 use Rattle.calls.specs.declared.Rounded.{Rounded}
+use Rattle.calls.specs.declared.Refreshed.{Refreshed}
 use Rattle.calls.specs.declared.Reported.{Reported}
 use Rattle.calls.specs.Answers.{Answer, answered}
-use Rattle.calls.specs.Results.{ifClear, roundingBy, roundNames, reportBy, reportedSpacing}
+use Rattle.calls.specs.Results.{ifClear, roundingBy, roundNames, refreshingBy, reportBy, reportedSpacing}
 use Rattle.sheets.specs.declared.Saved.{Saved}
 use Rattle.sheets.specs.Sheet.{blocks, sheet}
 use Rattle.sheets.specs.Results.{savingBy}
@@ -18,7 +20,7 @@ use Rattle.waiting.specs.declared.Order.{Order}
 use Rattle.waiting.specs.Layout.{takenList}
 use Rattle.orders.specs.declared.Ordered.{Ordered}
 use Rattle.orders.specs.Results.{carriedBoard, changedBy, changedAnswerBy, boardBy, listBy, boardIf, listIf, servedBy, servedAnswerBy}
-use Rattle.drives.specs.Checks.{listCheck, bothStart, wayOf, pairRoundCheck, pairReportCheck, pairSaveCheck}
+use Rattle.drives.specs.Checks.{listCheck, bothStart, wayOf, pairRoundCheck, pairReportCheck, pairSaveCheck, pairFreshCheck}
 
 -- ---- add and remove, by the way that is chosen
 
@@ -54,7 +56,7 @@ servedBoard a b B L = ifClear (listCheck a b B (length L)) (boardThen a b B L) B
 abbrev pub servedList : Drive → Drive → List ℕ → List ℕ → List ℕ
 servedList a b B L = ifClear (listCheck a b B (length L)) (listThen a b B L) L
 
--- ---- round, report, save: those of one drive, by the checks of both records
+-- ---- round, report, save, the fresh layout: those of one drive, by the checks of both records
 
 abbrev pub rounded : Drive → Drive → List ℕ → List ℕ → Rounded
 rounded a b B O = record { drive = a; answer = roundingBy (pairRoundCheck a b B (length O)) }
@@ -87,3 +89,12 @@ abbrev pub savedOutput : Drive → Drive → List ℕ → List ℕ → List ℕ
 savedOutput a b B O =
     let done = sheet (a .capacity) B ++ drop (512 * blocks (a .capacity)) O in
     ifClear (pairSaveCheck a b B (length O)) done O
+
+abbrev pub refreshed : Drive → Drive → List ℕ → Refreshed
+refreshed a b B = record { drive = a; answer = refreshingBy (pairFreshCheck a b B) }
+
+abbrev pub refreshedAnswer : Drive → Drive → List ℕ → Answer
+refreshedAnswer a b B = answered (pairFreshCheck a b B) []
+
+abbrev pub refreshedBoard : Drive → Drive → List ℕ → List ℕ
+refreshedBoard a b B = let done = layout.fresh (a .capacity) B in ifClear (pairFreshCheck a b B) done B

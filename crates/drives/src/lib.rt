@@ -1,4 +1,4 @@
-// The calls for two drives on one board with one waiting list: add, remove, slot, round, report, save. `own` is the record of the drive that the call is
+// The calls for two drives on one board with one waiting list: add, remove, slot, round, report, save, the fresh layout. `own` is the record of the drive that the call is
 // for, and comes back; `other` is the other drive's, and is only looked at. Open, read and fetch are those of one drive: their record is for both.
 ghost use mathlib.Core.Path.{_≡_};
 ghost use Prim.Native.Nat.{_≤_, _<_, max};
@@ -7,6 +7,8 @@ ghost use Rattle.drives.specs.Checks as checks;
 ghost use Rattle.drives.specs.Promises as promises;
 use calls::Check;
 use calls::Drive;
+use calls::Refreshed;
+use calls::Refreshing;
 use calls::Refusal;
 use calls::Report;
 use calls::Reported;
@@ -201,5 +203,18 @@ pub fn save(own: Drive, other: Drive, board: &[u16], output: &mut [u8]) -> Saved
             answer: Saving::Refused(r),
         },
         Check::Clear => sheets::save(own, board, output),
+    }
+}
+
+// Lays the board out afresh, at once: the orders that wait stay on the list, which is not looked at.
+pub fn fresh(own: Drive, other: Drive, board: &mut [u16]) -> Refreshed
+    ensures { λ r. ⌜ promises.Refreshes own other (now (board .entry)) r (now (board .exit)) ⌝ }
+{
+    match check_start(own, other, board) {
+        Check::Refused(r) => Refreshed {
+            drive: own,
+            answer: Refreshing::Refused(r),
+        },
+        Check::Clear => own.fresh(board),
     }
 }

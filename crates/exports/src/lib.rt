@@ -2,7 +2,7 @@
 // `engine` the tree walk. A slice is a pointer and then a length.
 ghost use mathlib.Core.Path.{_≡_};
 ghost use lib.ListN.{length};
-ghost use Rattle.calls.specs.Answers.{openingAnswer, servingAnswer, roundingAnswer, reportAnswer};
+ghost use Rattle.calls.specs.Answers.{openingAnswer, servingAnswer, roundingAnswer, refreshingAnswer, reportAnswer};
 ghost use Rattle.calls.specs.Results as results;
 ghost use Rattle.sheets.specs.Results as sheet_results;
 ghost use Rattle.waiting.specs.Layout.{fetched, fetchedList};
@@ -11,6 +11,7 @@ ghost use Rattle.orders.specs.Results as order_results;
 ghost use Rattle.exports.specs.Replies.{saidOf, reply, done, told, refusal};
 use calls::Drive;
 use calls::Opening;
+use calls::Refreshing;
 use calls::Refusal;
 use calls::Report;
 use calls::Rounding;
@@ -136,6 +137,16 @@ pub fn said_rounding(answer: Rounding) -> Said
     match answer {
         Rounding::Done => said_done(0, 0, 0, 0),
         Rounding::Refused(why) => said_refused(why, 0),
+    }
+}
+
+// The answer of the fresh layout.
+pub fn said_refreshing(answer: Refreshing) -> Said
+    ensures { λ r. ⌜ r ≡ saidOf (refreshingAnswer answer) ⌝ }
+{
+    match answer {
+        Refreshing::Done => said_done(0, 0, 0, 0),
+        Refreshing::Refused(why) => said_refused(why, 0),
     }
 }
 
@@ -304,4 +315,18 @@ pub extern "C" fn mandrozsi_fetch(list: &mut [u64], ticket: u64) -> Said
 {
     let answer = waiting::fetch(list, ticket);
     said_fetching(answer)
+}
+
+// Lays the board out afresh, by falling weight, then rising name. The orders that wait stay on the list, which is not lent.
+#[no_mangle]
+pub extern "C" fn mandrozsi_fresh(drive: Drive, board: &mut [u16]) -> Reply
+    ensures { λ r. ⌜ (r ≡ reply drive (results.refreshedAnswer drive (now (board .entry)))) × (now (board .exit) ≡ results.refreshedBoard drive (now (board .entry))) ⌝ }
+{
+    let refreshed = drive.fresh(board);
+    let after = refreshed.drive;
+    let answer = refreshed.answer;
+    Reply {
+        drive: after,
+        said: said_refreshing(answer),
+    }
 }

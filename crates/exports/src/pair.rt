@@ -9,6 +9,7 @@ ghost use Rattle.exports.specs.Promises.{ServesHere};
 use crate::Reply;
 use crate::Said;
 use crate::said_ordering;
+use crate::said_refreshing;
 use crate::said_report;
 use crate::said_rounding;
 use crate::said_saving;
@@ -125,6 +126,20 @@ pub extern "C" fn mandrozsi_pair_save(
     Reply {
         drive: after,
         said: said_saving(answer),
+    }
+}
+
+// Lays the board out afresh, where both drives are at the start of a round.
+#[no_mangle]
+pub extern "C" fn mandrozsi_pair_fresh(own: Drive, other: Drive, board: &mut [u16]) -> Reply
+    ensures { λ r. ⌜ (r ≡ reply own (results.refreshedAnswer own other (now (board .entry)))) × (now (board .exit) ≡ results.refreshedBoard own other (now (board .entry))) ⌝ }
+{
+    let refreshed = drives::fresh(own, other, board);
+    let after = refreshed.drive;
+    let answer = refreshed.answer;
+    Reply {
+        drive: after,
+        said: said_refreshing(answer),
     }
 }
 

@@ -10,10 +10,13 @@ use lib.Count.{ones}
 use lib.ListN.{getD, length}
 use Rattle.pieces.specs.Board.{pieces, nth, good, Good, sum, weight, number}
 use Rattle.pieces.specs.Literal.{IsPiece, LiesIn}
-use Rattle.pieces.specs.Placing.{Placeable, placed}
 use Rattle.pieces.specs.Tidying.{Removable, removed}
 -- Boards worked by hand. They are computed before any law is proved, so that a wrong rule falls on them first.
 pub use Rattle.pieces.proofs.Examples.{worked}
+-- The board after an add that passes its checks.
+pub use Rattle.pieces.proofs.Placing.{placed-length, placed-good, placed-weight, placed-idle, placed-others, placed-leaf, placed-beyond}
+-- A board laid out afresh: its entries, that it is good, what each name holds, that each stream can be added in its turn, that it hangs on the weights alone.
+pub use Rattle.pieces.proofs.Layouts.{fresh-length, fresh-beyond, fresh-good, fresh-weights, fresh-placeable, fresh-same, fresh-again}
 use Rattle.pieces.proofs.Blocks.{total, pieces-runs}
 use Rattle.pieces.proofs.Replace.{Agree, runs-local}
 use Rattle.pieces.proofs.Piece.{nth-order}
@@ -21,7 +24,6 @@ use Rattle.pieces.proofs.Literal as literal
 use Rattle.pieces.proofs.Literal.{good-intro, good-elim}
 use Rattle.pieces.proofs.Opened.{idle-good}
 use Rattle.pieces.proofs.Weight as weights
-use Rattle.pieces.proofs.Adding as adding
 use Rattle.pieces.proofs.Removed as removing
 use Rattle.pieces.proofs.Sums as sums
 use Rattle.pieces.proofs.Masks as masks
@@ -92,52 +94,6 @@ pub over-pieces : (C : ℕ) (B : List ℕ) (x : ℕ) (s : ℕ → ℕ → ℕ) (
     → ((a l : ℕ) → a % 2 ^ l ≡ 0 → a + 2 ^ l ≤ C → ((i : ℕ) → a ≤ i → i < a + 2 ^ l → getD B i 0 ≡ x) → (K * s a l ≤ 2 ^ l * T + D) × (2 ^ l * T ≤ K * s a l + D))
     → C ≤ 4095 → (K * s 0 12 ≤ weight C B x * T + number C B x * D) × (weight C B x * T ≤ K * s 0 12 + number C B x * D)
 over-pieces C B x s K T D halves none run few = sums.over-pieces C B x s K T D halves none run few
-
--- ---- the board after an add that passes its checks
-
-module _ (C : ℕ) (B : List ℕ) (x w : ℕ) (may : Placeable C B x w) where
-  same : (D : List ℕ) (y : ℕ) → weight C D y ≡ total C D y
-  same D y = weights.weight-total C D y (omega (arith, may .small))
-
-  sound : Good C B
-  sound = good-elim C B (may .sound)
-
-  absent : total C B x ≡ 0
-  absent = sym (same B x) ∙ may .absent
-
-  room : w ≤ total C B 0
-  room = rw (same B 0) at (may .room)
-
-  added : adding.Added C B (placed C B x w) x w (adding.digit w 12)
-  added = adding.placed-added C B x w (may .small) (may .long) (may .named) sound absent room
-
-  -- It has as many entries.
-  pub placed-length : length (placed C B x w) ≡ length B
-  placed-length = added .size
-
-  -- It is good.
-  pub placed-good : good C (placed C B x w) ≡ true
-  placed-good = good-intro C (placed C B x w) (adding.placed-good C B x w (may .small) (may .long) (may .named) sound absent room)
-
-  -- The stream holds its weight.
-  pub placed-weight : weight C (placed C B x w) x ≡ w
-  placed-weight = same (placed C B x w) x ∙ adding.placed-weight C B x w (may .small) (may .long) (may .named) sound absent room
-
-  -- The idle leaves lose it.
-  pub placed-idle : weight C (placed C B x w) 0 + w ≡ weight C B 0
-  placed-idle = rw (same (placed C B x w) 0, same B 0) (added .idle)
-
-  -- Every other stream keeps its weight.
-  pub placed-others : (y : ℕ) → (y ≡ 0 → ⊥) → (y ≡ x → ⊥) → weight C (placed C B x w) y ≡ weight C B y
-  placed-others y n m = rw (same (placed C B x w) y, same B y) (adding.placed-others C B x w (may .small) (may .long) (may .named) sound absent room y n m)
-
-  -- It keeps its very leaves, too.
-  pub placed-leaf : (i : ℕ) → (getD B i 0 ≡ 0 → ⊥) → getD (placed C B x w) i 0 ≡ getD B i 0
-  placed-leaf = added .leaf
-
-  -- Entries beyond C stay.
-  pub placed-beyond : (i : ℕ) → C ≤ i → getD (placed C B x w) i 0 ≡ getD B i 0
-  placed-beyond = added .beyond
 
 -- ---- the board after a remove that passes its checks
 

@@ -18,4 +18,9 @@ mod Sums
 mod Opened
 pub mod Laws
 mod Admitting
+mod Placing
+mod Streams
+mod Local
+mod Layouts
+mod Laying
 mod Examples

@@ -6,6 +6,7 @@
 //     leaves I N    the N entries of the store from I on
 //     hold C P N    the record becomes C and P, with the round number N, or 0 where there is none
 //     open C, add X W, remove X, slot, report X
+//     lay           lays the board out afresh
 //     round N M     lends an output of N entries of 99, and shows the first M of them afterwards
 //
 // Any other line is a remark.
@@ -14,6 +15,7 @@ ghost use lib.ListN.{length};
 use calls::Change;
 use calls::Drive;
 use calls::Opening;
+use calls::Refreshing;
 use calls::Refusal;
 use calls::Report;
 use calls::Rounding;
@@ -123,6 +125,19 @@ fn removes(d: Drive, board: &mut [u16], name: u16) -> Drive {
     after
 }
 
+fn lays(d: Drive, board: &mut [u16]) -> Drive {
+    say(b":");
+    let r = d.fresh(board);
+    let answer = r.answer;
+    match answer {
+        Refreshing::Done => say_number(0),
+        Refreshing::Refused(n) => say_number(n.number()),
+    }
+    let after = r.drive;
+    say_drive(after);
+    after
+}
+
 fn say_three(a: u16, b: u16, c: u16) {
     say_number(a);
     say_number(b);
@@ -199,6 +214,7 @@ fn call(d: Drive, letter: u8, a: u16, b: u16, board: &mut [u16], output: &mut [u
         b'e' => opens(board, a),
         b'd' => adds(d, board, a, b),
         b'm' => removes(d, board, a),
+        b'y' => lays(d, board),
         b'o' => serves(d, board),
         b'p' => reports(d, board, a),
         b'u' => {

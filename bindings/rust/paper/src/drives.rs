@@ -60,3 +60,12 @@ pub fn save<P: AtOnce>(records: Records, board: &[u16], output: &mut [u8]) -> An
         }
     })
 }
+
+/// Document 02, No. 12: "4 being given for this call again, for either drive".
+pub fn fresh<P: AtOnce>(records: Records, board: &mut [u16]) -> Answer {
+    match bounds::<P>(records, board, false) {
+        Some(number) => Answer::refused(records.own, number),
+        None if records.start() => P::fresh(records.own, board),
+        None => Answer::refused(records.own, MIDROUND),
+    }
+}

@@ -165,6 +165,30 @@ pub fn remove(record: Record, board: &mut [u16], name: u16) -> Answer {
     Answer::done(record, [weigh(leaves, 0) as u64, 0, 0, 0])
 }
 
+pub fn fresh(record: Record, board: &mut [u16]) -> Answer {
+    let number = check_change(record, board);
+    if number != 0 {
+        return Answer::refused(record, number);
+    }
+    let leaves = &mut board[..record.capacity.into()];
+    let mut names = leaves.to_vec();
+    names.sort_unstable();
+    let mut streams: Vec<(u16, u16)> = Vec::new();
+    for name in names {
+        match streams.last_mut() {
+            Some((weight, last)) if *last == name => *weight += 1,
+            _ => streams.push((1, name)),
+        }
+    }
+    streams.retain(|&(_, name)| name != 0);
+    streams.sort_by(|a, b| b.0.cmp(&a.0).then(a.1.cmp(&b.1)));
+    leaves.fill(0);
+    for (weight, name) in streams {
+        place(leaves, name, weight);
+    }
+    Answer::done(record, [0; 4])
+}
+
 /// The leaf served at position p, the terms passed over, the position after.
 #[inline]
 fn pick(c: u16, p: u16) -> (u16, u16, u16) {

@@ -247,6 +247,24 @@ pub fn remove(record: Record, board: &mut [u16], name: u16) -> Answer {
     Answer::done(record, [weight_of(leaves, 0) as u64, 0, 0, 0])
 }
 
+/// Document 02, No. 12: "rebuilds the board as if every stream had been added to an opened board by falling weight, then rising name".
+pub fn fresh(record: Record, board: &mut [u16]) -> Answer {
+    if let Some(number) = asked(record, board).lowest(&[CAPACITY, SHORT, POSITION, MIDROUND, DAMAGED]) {
+        return Answer::refused(record, number);
+    }
+    let leaves = &mut board[..record.capacity.into()];
+    let mut names: Vec<u16> = leaves.iter().copied().filter(|&name| name != 0).collect();
+    names.sort_unstable();
+    names.dedup();
+    let mut streams: Vec<(usize, u16)> = names.into_iter().map(|name| (weight_of(leaves, name), name)).collect();
+    streams.sort_by_key(|&(weight, name)| (std::cmp::Reverse(weight), name));
+    leaves.fill(0);
+    for (weight, name) in streams {
+        place(leaves, name, weight as u16);
+    }
+    Answer::done(record, [0; 4])
+}
+
 pub fn slot(record: Record, board: &[u16]) -> Answer {
     if let Some(number) = asked(record, board).lowest(&[CAPACITY, SHORT, POSITION]) {
         return Answer::refused(record, number);

@@ -16,6 +16,7 @@ pub trait Calls {
         self.slot(records, board, list)
     }
     fn batch(&self, records: Records, board: &mut [u16], list: &mut [u64], table: &mut [Entry]) -> Record;
+    fn fresh(&self, records: Records, board: &mut [u16]) -> Answer;
     fn round(&self, records: Records, board: &[u16], output: &mut [u16]) -> Answer;
     fn report(&self, records: Records, board: &[u16], name: u16) -> Answer;
     fn save(&self, records: Records, board: &[u16], output: &mut [u8]) -> Answer;
@@ -38,6 +39,9 @@ macro_rules! version {
             }
             fn remove(record: Record, board: &mut [u16], name: u16) -> Answer {
                 $module::remove(record, board, name)
+            }
+            fn fresh(record: Record, board: &mut [u16]) -> Answer {
+                $module::fresh(record, board)
             }
             fn slot(record: Record, board: &[u16]) -> Answer {
                 $module::slot(record, board)
@@ -75,6 +79,9 @@ macro_rules! version {
             fn batch(&self, records: Records, board: &mut [u16], list: &mut [u64], table: &mut [Entry]) -> Record {
                 batch::batch::<Self>(records, board, list, table)
             }
+            fn fresh(&self, records: Records, board: &mut [u16]) -> Answer {
+                drives::fresh::<Self>(records, board)
+            }
             fn round(&self, records: Records, board: &[u16], output: &mut [u16]) -> Answer {
                 drives::round::<Self>(records, board, output)
             }
@@ -106,12 +113,14 @@ version! {
 
 /// How often each call gave each number, done as 0.
 #[derive(Default)]
-pub struct Tally([[usize; 16]; 10]);
+pub struct Tally([[usize; 16]; 11]);
 
-const NAMES: [&str; 10] = ["open", "add", "remove", "slot", "round", "report", "save", "read", "fetch", "batch"];
+const NAMES: [&str; 11] = [
+    "open", "add", "remove", "slot", "round", "report", "save", "read", "fetch", "batch", "fresh",
+];
 
 /// What each call may answer.
-const MAY: [&[usize]; 10] = [
+const MAY: [&[usize]; 11] = [
     &[0, 1, 2],
     &[0, 1, 2, 3, 5, 6, 7, 8, 10, 13, 14],
     &[0, 1, 2, 3, 5, 6, 9, 13, 14],
@@ -122,10 +131,11 @@ const MAY: [&[usize]; 10] = [
     &[0, 1, 2, 5, 12],
     &[0, 5, 8, 9, 10, 13, 15],
     &[0, 1, 2, 3, 5, 6, 7, 8, 9, 10, 13, 14],
+    &[0, 1, 2, 3, 4, 5],
 ];
 
 /// The calls that are given a record, and so the record of another drive too.
-const GIVEN: [usize; 7] = [1, 2, 3, 4, 5, 6, 9];
+const GIVEN: [usize; 8] = [1, 2, 3, 4, 5, 6, 9, 10];
 
 impl Tally {
     /// Every answer that these calls may give was met, and no other.
@@ -260,6 +270,12 @@ impl<'a, C: Calls> Trial<'a, C> {
         }
     }
 
+    pub fn fresh(&mut self, records: impl Into<Records>, board: &mut [u16]) -> Answer {
+        let r = records.into();
+        let answer = self.same(10, &r, board, &mut [], |calls, b, _| calls.fresh(r, b), |b, _| Letter.fresh(r, b));
+        self.tallied(10, r.other.is_some(), answer)
+    }
+
     pub fn round(&mut self, records: impl Into<Records>, board: &[u16], output: &mut [u16]) -> Answer {
         let r = records.into();
         let answer = self.same(
@@ -368,6 +384,7 @@ impl<'a, C: Calls> Trial<'a, C> {
                 for weight in 0..=c {
                     self.add(at(c, 1), &mut board.clone(), &mut EMPTY.clone(), 3, weight);
                 }
+                self.fresh(at(c, 1), &mut board.clone());
             }
         }
     }
@@ -452,7 +469,10 @@ impl<'a, C: Calls> Trial<'a, C> {
                     let name = some_name(&mut random, &names);
                     self.report(records, &board, name);
                 }
-                9 => self.sheets(&mut random, records, &board, &list),
+                9 => {
+                    self.sheets(&mut random, records, &board, &list);
+                    self.layouts(&mut random, records, &mut board);
+                }
                 10 => self.damaged(&mut random, records, &board, &list, &names),
                 11 => {
                     for _ in 0..random.below(5) {
@@ -471,6 +491,17 @@ impl<'a, C: Calls> Trial<'a, C> {
             if random.one_in(60) {
                 self.crowd(&mut random, records, &board, &list, &names);
             }
+        }
+    }
+
+    /// A fresh layout, mostly at the start of a round; and again, which changes nothing.
+    fn layouts(&mut self, random: &mut Random, records: Records, board: &mut [u16]) {
+        self.fresh(records, board);
+        if random.one_in(2) {
+            self.fresh(placed(records, 1, 1), board);
+            let before = board.to_vec();
+            self.fresh(placed(records, 1, 1), board);
+            assert_eq!(board, before);
         }
     }
 
@@ -544,6 +575,7 @@ impl<'a, C: Calls> Trial<'a, C> {
         self.slot(r, &mut board.to_vec(), &mut list.clone());
         self.batch(r, &mut board.to_vec(), &mut list.clone(), &mut some_table(random, names));
         self.fetch(&mut list, random.pick(&[0, 1, 2]), false);
+        self.fresh(r, &mut board.to_vec());
         self.round(r, board, &mut vec![5; random.below(2 * lent + 1)]);
         self.report(r, board, name);
         self.save(r, board, &mut vec![5; 512 * random.below(19)]);
@@ -562,6 +594,8 @@ impl<'a, C: Calls> Trial<'a, C> {
         self.slot(records, &mut board.clone(), &mut list.to_vec());
         self.batch(records, &mut board.clone(), &mut list.to_vec(), &mut some_table(random, names));
         self.report(records, &board, name);
+        self.fresh(records, &mut board.clone());
+        self.fresh(placed(records, 1, 1), &mut board.clone());
         let mut sheet = vec![3; 17 * 512];
         self.save(records, &board, &mut sheet);
         let bytes = letter::sheet(&board[..records.own.capacity.into()]);

@@ -11,6 +11,7 @@ pub trait AtOnce {
     fn open(capacity: u16, board: &mut [u16]) -> Answer;
     fn add(record: Record, board: &mut [u16], name: u16, weight: u16) -> Answer;
     fn remove(record: Record, board: &mut [u16], name: u16) -> Answer;
+    fn fresh(record: Record, board: &mut [u16]) -> Answer;
     fn slot(record: Record, board: &[u16]) -> Answer;
     fn round(record: Record, board: &[u16], output: &mut [u16]) -> Answer;
     fn report(record: Record, board: &[u16], name: u16) -> Answer;

@@ -301,3 +301,35 @@ fn tables() {
     assert_eq!(answers(&table), [(7, 0), (1, 0)]);
     assert_eq!(batch::<P>(start.into(), &mut board, &mut list, &mut []), start);
 }
+
+/// Document 02, No. 12: by falling weight, then rising name, on an idle board, whatever it held.
+#[test]
+fn fresh_layouts() {
+    for fresh in [letter::fresh, hand::fresh] {
+        let laid = |mut board: Vec<u16>| {
+            assert_eq!(
+                fresh(at(board.len() as u16, 1), &mut board),
+                Answer::done(at(board.len() as u16, 1), [0; 4])
+            );
+            board
+        };
+        assert_eq!(laid(vec![1, 2, 0]), [2, 0, 1]);
+        assert_eq!(laid(vec![0, 1, 2]), [2, 0, 1]);
+        // Weights 3, 1 and 1 on 8 leaves: 5 first, then 2 before 9.
+        assert_eq!(laid(vec![9, 2, 5, 0, 5, 5, 0, 0]), [5, 5, 5, 2, 9, 0, 0, 0]);
+        assert_eq!(laid(vec![0, 0, 0]), [0, 0, 0]);
+        assert_eq!(laid(vec![4]), [4]);
+        // Entries beyond C stay, and so does the round number; 4 before 5.
+        let away = Record {
+            position: 2,
+            round: 7,
+            ..at(3, 1)
+        };
+        let mut board = [1, 2, 0, 6];
+        assert_eq!(fresh(away, &mut board), Answer::refused(away, 4));
+        assert_eq!(fresh(Record { position: 1, ..away }, &mut board).record.round, 7);
+        assert_eq!(board, [2, 0, 1, 6]);
+        assert_eq!(fresh(at(5, 2), &mut [4, 0, 0, 4, 0]).number, 4);
+        assert_eq!(fresh(at(5, 1), &mut [4, 0, 0, 4, 0]).number, 5);
+    }
+}

@@ -115,6 +115,16 @@ impl Calls for Boundary {
         }
         record(after)
     }
+    fn fresh(&self, r: Records, board: &mut [u16]) -> Answer {
+        let (board, entries) = (board.as_mut_ptr(), board.len());
+        let own = drive(r.own);
+        answer(unsafe {
+            match r.other {
+                None => raw::mandrozsi_fresh(own, board, entries),
+                Some(other) => raw::mandrozsi_pair_fresh(own, drive(other), board, entries),
+            }
+        })
+    }
     fn round(&self, r: Records, board: &[u16], output: &mut [u16]) -> Answer {
         let (board, entries, output, length) = (board.as_ptr(), board.len(), output.as_mut_ptr(), output.len());
         let own = drive(r.own);

@@ -248,3 +248,11 @@ unsafe extern "C" fn mandrozsi_walk(capacity: u16, board: *const u16, entries: u
     let lent = [Lent::shared(board, entries), NONE, Lent::changed(marks, length)];
     ask(17, one(asked), 0, 0, lent).said
 }
+#[no_mangle]
+unsafe extern "C" fn mandrozsi_fresh(drive: Drive, board: *mut u16, entries: usize) -> Reply {
+    ask(18, one(drive), 0, 0, [Lent::changed(board, entries), NONE, NONE])
+}
+#[no_mangle]
+unsafe extern "C" fn mandrozsi_pair_fresh(own: Drive, other: Drive, board: *mut u16, entries: usize) -> Reply {
+    ask(19, [own, other], 0, 0, [Lent::changed(board, entries), NONE, NONE])
+}

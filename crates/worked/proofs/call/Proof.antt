@@ -15,6 +15,9 @@ adds-requires c κs = search needs
 removes-requires : tie.Need-removes-requires
 removes-requires c κs = search needs
 
+lays-requires : tie.Need-lays-requires
+lays-requires c κs = search needs
+
 serves-requires : tie.Need-serves-requires
 serves-requires c κs = search needs
 
@@ -66,14 +69,20 @@ returns-5 c = search needs
 same-length-6 : tie.Need-same-length-6
 same-length-6 c = search needs
 
-same-length-7 : tie.Need-same-length-7
-same-length-7 c = search needs
-
 returns-6 : tie.Need-returns-6
 returns-6 c = search needs
 
+same-length-7 : tie.Need-same-length-7
+same-length-7 c = search needs
+
+same-length-8 : tie.Need-same-length-8
+same-length-8 c = search needs
+
 returns-7 : tie.Need-returns-7
 returns-7 c = search needs
+
+returns-8 : tie.Need-returns-8
+returns-8 c = search needs
 
 pub call-spec : {M : Type 1} → statement M
 call-spec =
@@ -82,6 +91,7 @@ call-spec =
     opens-requires
     adds-requires
     removes-requires
+    lays-requires
     serves-requires
     reports-requires
     least-requires
@@ -99,6 +109,8 @@ call-spec =
     same-length-5
     returns-5
     same-length-6
-    same-length-7
     returns-6
-    returns-7)
+    same-length-7
+    same-length-8
+    returns-7
+    returns-8)

@@ -1,0 +1,69 @@
+-- `pieces::heaviest` meets its contract. Assumes nothing.
+use mathlib.Core.Path.{_≡_, subst}
+use Prim.Native.Nat.{ℕ, _-_, _≤_}
+use native.Mathlib.Omega.{arith}
+use borrow.Author.Needs.{needs}
+use Rattle.pieces.specs.Laying.{weightsIn, Heaviest}
+use Rattle.pieces.proofs.Laying.{heaviest-none, heaviest-more}
+use Rattle.pieces.proofs.heaviest.Statement.{statement}
+use Rattle.pieces.proofs.heaviest.Tie as tie
+
+abbrev Inv-loop : tie.InvT-loop
+Inv-loop sizes names n below r₀ i₀ r i = (i ≤ n) × Heaviest (weightsIn sizes) names i below r
+
+abbrev μ-loop : tie.MeasureT-loop
+μ-loop sizes names n below r₀ i₀ r i = n - i
+
+loop-holds : tie.Need-loop-holds Inv-loop μ-loop
+loop-holds c = (omega arith, heaviest-none _ _ _ (c .before .before .pre .3))
+
+mul-weight-in : tie.Need-mul-weight-in Inv-loop μ-loop
+mul-weight-in c = omega (arith, c .before .before .before .before .pre .2)
+
+shared-slice-read-weight-in : tie.Need-shared-slice-read-weight-in Inv-loop μ-loop
+shared-slice-read-weight-in c = omega (arith, c .before .before .before .before .before .pre .1)
+
+cast-weight-in : tie.Need-cast-weight-in Inv-loop μ-loop
+cast-weight-in c = omega (arith, c .shared-slice-known3 .given (c .before .before .loop .i))
+
+weight-in-requires : tie.Need-weight-in-requires Inv-loop μ-loop
+weight-in-requires c κs = (c .before .before .before .before .before .pre .0, omega (arith, c .shared-slice-known3 .given (c .before .before .loop .i)))
+
+heavier-requires : tie.Need-heavier-requires Inv-loop μ-loop
+heavier-requires c κs = search needs
+
+add-i : tie.Need-add-i Inv-loop μ-loop
+add-i c = omega (arith, c .before .before .before .before .before .before .before .pre .2)
+
+loop-less : tie.Need-loop-less Inv-loop μ-loop
+loop-less c = omega arith
+
+loop-again : tie.Need-loop-again Inv-loop μ-loop
+loop-again c =
+    let a = c .before .before .before .before .before .before .before .args in
+    let L = c .before .before .before .before .loop in
+    (omega arith, rw (c .heavier .ensures, c .before .weight-in .ensures) (heaviest-more (weightsIn (a .sizes .now)) (a .names .now) (L .i) (a .below) (L .r) (L .inv .1)))
+
+returns : tie.Need-returns Inv-loop μ-loop
+returns c =
+    let a = c .before .before .before .before .args in
+    let L = c .before .loop in
+    let e : L .i ≡ a .n = omega arith in
+    subst (λ (n : ℕ). Heaviest (weightsIn (a .sizes .now)) (a .names .now) n (a .below) (L .r)) e (L .inv .1)
+
+pub heaviest-spec : {M : Type 1} → statement M
+heaviest-spec =
+    tie.close
+    (tie.spec
+    Inv-loop
+    μ-loop
+    loop-holds
+    mul-weight-in
+    shared-slice-read-weight-in
+    cast-weight-in
+    weight-in-requires
+    heavier-requires
+    add-i
+    loop-less
+    loop-again
+    returns)
