@@ -1,7 +1,7 @@
 /* Makes the library's calls for another process: for the comparison from Rust (bindings/rust/tests/boundary/served.rs) on a machine whose
  * Rust cannot link the archive. It reads calls on standard input until it ends, and answers each on standard output:
  *
- *   a call    struct call below, then the bytes of the board, of the list, and of the output, sheet or marks
+ *   a call    struct call below, then the bytes of its slices
  *   an answer mandrozsi_reply, then the same bytes as the call left them
  *
  * Numbers lie as in memory, so both ends must keep the low byte first. Every slice is lent where it ends against a page that cannot be
@@ -22,13 +22,17 @@ enum { OPEN, ADD, REMOVE, SLOT, ROUND, REPORT, SAVE, READ, FETCH };
 enum { PAIR_ADD = 9, PAIR_REMOVE, PAIR_SLOT, PAIR_ROUND, PAIR_REPORT, PAIR_SAVE, PAIR_BATCH, PAIR_SLOT_HERE };
 enum { WALK = 17, FRESH, PAIR_FRESH };
 
-/* What is called, with what; the bytes of the three slices, 0 where the call has none; and the record, or the ticket in place of its round, and that
- * of the other drive. */
+/* The slices that a call can be lent: OTHER is the output, sheet, marks or table of changes; then come the tables, and what is only read beside an
+ * output: a sheet, or the starts and names of a group table. */
+enum { BOARD, LIST, OTHER, RATES, OWED, OWED_OTHER, GIVEN, NAMES, SLICES };
+
+/* What is called, with what; the record, or the ticket in place of its round, and that of the other drive; and the bytes of each slice, 0 where the
+ * call has none. */
 struct call {
-    uint16_t number, name, weight, board_bytes, list_bytes, other_bytes, capacity, position, other_capacity, other_position, unused[2];
-    uint64_t round, other_round;
+    uint16_t number, name, weight, capacity, position, other_capacity, other_position, unused;
+    uint64_t round, other_round, bytes[SLICES];
 };
-_Static_assert(sizeof(struct call) == 40, "a call is twelve 16-bit numbers and two of 64 bits");
+_Static_assert(sizeof(struct call) == 32 + 8 * SLICES, "a call is eight 16-bit numbers, and then numbers of 64 bits");
 
 static _Noreturn void end(const char *why)
 {
@@ -66,9 +70,12 @@ static void give_back(const uint8_t *slice, size_t bytes)
         end("an answer cannot be written");
 }
 
-static mandrozsi_reply make(const struct call *c, uint16_t *board, uint64_t *list, uint8_t *other)
+static mandrozsi_reply make(const struct call *c, uint8_t *lent[SLICES])
 {
-    size_t entries = c->board_bytes / sizeof *board, numbers = c->list_bytes / sizeof *list, length = c->other_bytes;
+    uint16_t *board = (uint16_t *)(void *)lent[BOARD];
+    uint64_t *list = (uint64_t *)(void *)lent[LIST];
+    uint8_t *other = lent[OTHER];
+    size_t entries = c->bytes[BOARD] / sizeof *board, numbers = c->bytes[LIST] / sizeof *list, length = c->bytes[OTHER];
     mandrozsi_drive drive = {c->capacity, c->position, c->round}, partner = {c->other_capacity, c->other_position, c->other_round};
     uint16_t *names = (uint16_t *)(void *)other;
     mandrozsi_entry *table = (mandrozsi_entry *)(void *)other;
@@ -103,16 +110,18 @@ static mandrozsi_reply make(const struct call *c, uint16_t *board, uint64_t *lis
 
 int main(void)
 {
-    uint8_t *first = room(), *second = room(), *third = room();
+    uint8_t *rooms[SLICES], *lent[SLICES];
+    for (int i = 0; i < SLICES; i++)
+        rooms[i] = room();
     struct call c;
     while (fread(&c, sizeof c, 1, stdin) == 1) {
-        uint8_t *board = lend(first, c.board_bytes), *list = lend(second, c.list_bytes), *other = lend(third, c.other_bytes);
-        mandrozsi_reply reply = make(&c, (uint16_t *)(void *)board, (uint64_t *)(void *)list, other);
+        for (int i = 0; i < SLICES; i++)
+            lent[i] = lend(rooms[i], c.bytes[i]);
+        mandrozsi_reply reply = make(&c, lent);
         if (fwrite(&reply, sizeof reply, 1, stdout) != 1)
             end("an answer cannot be written");
-        give_back(board, c.board_bytes);
-        give_back(list, c.list_bytes);
-        give_back(other, c.other_bytes);
+        for (int i = 0; i < SLICES; i++)
+            give_back(lent[i], c.bytes[i]);
         if (fflush(stdout) != 0)
             end("an answer cannot be written");
     }

@@ -294,9 +294,8 @@ pub fn round(record: Record, board: &[u16], output: &mut [u16]) -> Answer {
 }
 
 /// Document 02, No. 1: "the largest distance from one serve to the next over two rounds of the same board, end of round included".
-fn spacing(leaves: &[u16], name: u16) -> usize {
-    let round: Vec<u16> = round_leaves(leaves.len()).into_iter().map(|leaf| leaves[leaf]).collect();
-    let two = [round.as_slice(), &round].concat();
+pub(crate) fn spacing(round: &[u16], name: u16) -> usize {
+    let two = [round, round].concat();
     let serves: Vec<usize> = (0..two.len()).filter(|&slot| two[slot] == name).collect();
     serves.windows(2).map(|pair| pair[1] - pair[0]).max().unwrap()
 }
@@ -312,7 +311,8 @@ pub fn report(record: Record, board: &[u16], name: u16) -> Answer {
     let leaves = &board[..record.capacity.into()];
     let weight = weight_of(leaves, name);
     let number = pieces(leaves).iter().filter(|piece| piece.name == name).count();
-    Answer::done(record, [weight as u64, number as u64, spacing(leaves, name) as u64, 0])
+    let round: Vec<u16> = round_leaves(leaves.len()).into_iter().map(|leaf| leaves[leaf]).collect();
+    Answer::done(record, [weight as u64, number as u64, spacing(&round, name) as u64, 0])
 }
 
 /// The bytes of a sheet.

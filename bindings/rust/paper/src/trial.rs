@@ -111,60 +111,67 @@ version! {
     Hand, hand
 }
 
-/// How often each call gave each number, done as 0.
-#[derive(Default)]
-pub struct Tally([[usize; 16]; 11]);
-
-const NAMES: [&str; 11] = [
-    "open", "add", "remove", "slot", "round", "report", "save", "read", "fetch", "batch", "fresh",
-];
-
 /// What each call may answer.
-const MAY: [&[usize]; 11] = [
-    &[0, 1, 2],
-    &[0, 1, 2, 3, 5, 6, 7, 8, 10, 13, 14],
-    &[0, 1, 2, 3, 5, 6, 9, 13, 14],
-    &[0, 1, 2, 3],
-    &[0, 1, 2, 3, 11],
-    &[0, 1, 2, 3, 5, 6, 9],
-    &[0, 1, 2, 3, 4, 5, 11],
-    &[0, 1, 2, 5, 12],
-    &[0, 5, 8, 9, 10, 13, 15],
-    &[0, 1, 2, 3, 5, 6, 7, 8, 9, 10, 13, 14],
-    &[0, 1, 2, 3, 4, 5],
+const MAY: [(&str, &[usize]); 11] = [
+    ("open", &[0, 1, 2]),
+    ("add", &[0, 1, 2, 3, 5, 6, 7, 8, 10, 13, 14]),
+    ("remove", &[0, 1, 2, 3, 5, 6, 9, 13, 14]),
+    ("slot", &[0, 1, 2, 3]),
+    ("round", &[0, 1, 2, 3, 11]),
+    ("report", &[0, 1, 2, 3, 5, 6, 9]),
+    ("save", &[0, 1, 2, 3, 4, 5, 11]),
+    ("read", &[0, 1, 2, 5, 12]),
+    ("fetch", &[0, 5, 8, 9, 10, 13, 15]),
+    ("batch", &[0, 1, 2, 3, 5, 6, 7, 8, 9, 10, 13, 14]),
+    ("fresh", &[0, 1, 2, 3, 4, 5]),
 ];
 
 /// The calls that are given a record, and so the record of another drive too.
 const GIVEN: [usize; 8] = [1, 2, 3, 4, 5, 6, 9, 10];
 
-impl Tally {
+/// How often each of N calls gave each number, done as 0.
+pub struct Tally<const N: usize> {
+    may: [(&'static str, &'static [usize]); N],
+    counts: [[usize; 19]; N],
+}
+
+impl<const N: usize> Tally<N> {
+    pub fn new(may: [(&'static str, &'static [usize]); N]) -> Self {
+        Tally { may, counts: [[0; 19]; N] }
+    }
+
+    pub fn count(&mut self, call: usize, number: impl Into<u64>) {
+        self.counts[call][number.into() as usize] += 1;
+    }
+
     /// Every answer that these calls may give was met, and no other.
     pub fn is_whole(&self, calls: impl IntoIterator<Item = usize>) {
         for call in calls {
-            for (number, &count) in self.0[call].iter().enumerate() {
-                assert_eq!(count > 0, MAY[call].contains(&number), "{} answered {number} {count} times", NAMES[call]);
+            let (name, may) = self.may[call];
+            for (number, &count) in self.counts[call].iter().enumerate() {
+                assert_eq!(count > 0, may.contains(&number), "{name} answered {number} {count} times");
             }
         }
     }
 
     pub fn calls(&self) -> usize {
-        self.0.iter().flatten().sum()
+        self.counts.iter().flatten().sum()
     }
 }
 
 /// One version beside the paper's letter, and what was answered to one drive and to two.
 pub struct Trial<'a, C: Calls> {
     pub calls: &'a C,
-    pub tally: Tally,
-    pub tally_of_two: Tally,
+    pub tally: Tally<11>,
+    pub tally_of_two: Tally<11>,
 }
 
 impl<'a, C: Calls> Trial<'a, C> {
     pub fn new(calls: &'a C) -> Self {
         Trial {
             calls,
-            tally: Tally::default(),
-            tally_of_two: Tally::default(),
+            tally: Tally::new(MAY),
+            tally_of_two: Tally::new(MAY),
         }
     }
 
@@ -182,7 +189,7 @@ impl<'a, C: Calls> Trial<'a, C> {
         let before = (other.clone(), other_list.clone());
         let expected = paper(&mut other, &mut other_list);
         let got = ours(self.calls, lent, list);
-        let name = NAMES[call];
+        let name = MAY[call].0;
         assert_eq!(got, expected, "{name} {what:?} of {before:?}");
         if let Some(i) = (0..other.len()).find(|&i| other[i] != lent[i]) {
             panic!("{name} {what:?} of {before:?}: entry {i} is {:?}, the paper has {:?}", lent[i], other[i]);
@@ -198,7 +205,7 @@ impl<'a, C: Calls> Trial<'a, C> {
 
     fn tallied(&mut self, call: usize, two: bool, answer: Answer) -> Answer {
         let tally = if two { &mut self.tally_of_two } else { &mut self.tally };
-        tally.0[call][usize::from(answer.number)] += 1;
+        tally.count(call, answer.number);
         answer
     }
 
@@ -266,7 +273,7 @@ impl<'a, C: Calls> Trial<'a, C> {
         table.copy_from_slice(&entries);
         let tally = if r.other.is_some() { &mut self.tally_of_two } else { &mut self.tally };
         for entry in table {
-            tally.0[9][usize::from(entry.number)] += 1;
+            tally.count(9, entry.number);
         }
     }
 
@@ -338,7 +345,7 @@ impl<'a, C: Calls> Trial<'a, C> {
             |_, l| Letter.fetch(l, ticket),
         );
         if !odd {
-            self.tally.0[8][said.0 as usize] += 1;
+            self.tally.count(8, said.0);
         }
         said
     }
@@ -670,7 +677,7 @@ fn some_away(random: &mut Random, records: Records) -> Records {
 }
 
 /// A record like one that calls left, or wrong in its capacity, its position or both.
-fn some_record(random: &mut Random, record: Record) -> Record {
+pub(crate) fn some_record(random: &mut Random, record: Record) -> Record {
     let wrong = [
         0,
         1,
@@ -705,7 +712,7 @@ fn some_record(random: &mut Random, record: Record) -> Record {
 const EMPTY: [u64; LENGTH] = [0; LENGTH];
 
 /// A list as long as it must be or longer: empty, with few tickets left, or with numbers that no call left, some of them of the names.
-fn some_list(random: &mut Random, names: &[u16]) -> Vec<u64> {
+pub(crate) fn some_list(random: &mut Random, names: &[u16]) -> Vec<u64> {
     let mut list = vec![0; LENGTH + random.below(4)];
     list[0] = random.pick(&[0, 0, 7, u64::MAX - 3, u64::MAX]);
     if random.one_in(2) {
@@ -725,7 +732,7 @@ fn some_list(random: &mut Random, names: &[u16]) -> Vec<u64> {
 }
 
 /// A table of up to a hundred changes, with kinds that are none and with old answers in their places.
-fn some_table(random: &mut Random, names: &[u16]) -> Vec<Entry> {
+pub(crate) fn some_table(random: &mut Random, names: &[u16]) -> Vec<Entry> {
     let many = random.pick(&[0, 1, 2, 5, 5, 100]);
     (0..many)
         .map(|_| Entry {
@@ -748,7 +755,7 @@ fn some_ticket(random: &mut Random, list: &[u64]) -> u64 {
 }
 
 /// Sets each block's last number so that the block sums to 0.
-fn mend_sums(sheet: &mut [u8]) {
+pub(crate) fn mend_sums(sheet: &mut [u8]) {
     for block in sheet.chunks_exact_mut(512) {
         let sum = block[..510]
             .chunks_exact(2)
@@ -757,7 +764,7 @@ fn mend_sums(sheet: &mut [u8]) {
     }
 }
 
-fn some_capacity(random: &mut Random) -> u16 {
+pub(crate) fn some_capacity(random: &mut Random) -> u16 {
     let c = match random.below(10) {
         0..=3 => 1 + random.below(20),
         4..=6 => 21 + random.below(300),
@@ -779,7 +786,7 @@ fn some_round(random: &mut Random) -> u64 {
     }
 }
 
-fn some_number(random: &mut Random) -> u16 {
+pub(crate) fn some_number(random: &mut Random) -> u16 {
     match random.below(4) {
         0 => random.below(3) as u16,
         1 => random.pick(&[4095, 4096, 8191, 65535]),
@@ -788,7 +795,7 @@ fn some_number(random: &mut Random) -> u16 {
     }
 }
 
-fn some_name(random: &mut Random, names: &[u16]) -> u16 {
+pub(crate) fn some_name(random: &mut Random, names: &[u16]) -> u16 {
     if names.is_empty() || random.one_in(2) {
         some_number(random)
     } else {
@@ -807,7 +814,7 @@ pub fn compare(calls: &impl Calls, seeds: u64) -> usize {
         trial.churn(seed, false);
         trial.churn(seed, true);
     }
-    trial.tally.is_whole(0..NAMES.len());
+    trial.tally.is_whole(0..MAY.len());
     trial.tally_of_two.is_whole(GIVEN);
     trial.tally.calls() + trial.tally_of_two.calls()
 }

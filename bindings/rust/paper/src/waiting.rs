@@ -46,7 +46,7 @@ pub fn remove_order(name: u16) -> Order {
 }
 
 /// How many answers are to be fetched and how many orders wait: never more than there are places.
-fn counts(list: &[u64]) -> (usize, usize) {
+pub(crate) fn counts(list: &[u64]) -> (usize, usize) {
     let answers = list[1].min(PLACES as u64) as usize;
     (answers, list[2].min((PLACES - answers) as u64) as usize)
 }
@@ -65,7 +65,7 @@ fn order_in([_, kind, name, weight]: [u64; 4]) -> Order {
 }
 
 /// "Goes on a waiting list of 64 orders and answers WAITING"; "14 QUEUE comes in its stead when 64 places are taken or the tickets are used up".
-fn take(record: Record, list: &mut [u64], order: Order) -> Answer {
+pub(crate) fn take(record: Record, list: &mut [u64], order: Order) -> Answer {
     let (answers, orders) = counts(list);
     let taken = answers + orders;
     let Some(ticket) = list[0].checked_add(1).filter(|_| taken < PLACES) else {
@@ -89,10 +89,10 @@ fn carry_out<P: AtOnce>(record: Record, board: &mut [u16], order: Order) -> Answ
 }
 
 /// "Carries out the list in arrival order .. and leaves each answer to be fetched once by its ticket."
-fn run<P: AtOnce>(record: Record, board: &mut [u16], list: &mut [u64]) {
+pub(crate) fn run(list: &mut [u64], mut carry_out: impl FnMut(Order) -> Answer) {
     let (answers, orders) = counts(list);
     for i in answers..answers + orders {
-        let said = carry_out::<P>(record, board, order_in(place(list, i)));
+        let said = carry_out(order_in(place(list, i)));
         list[4 + 4 * i] = said.number.into();
         list[5 + 4 * i] = said.values[0];
     }
@@ -132,13 +132,13 @@ pub fn slot<P: AtOnce>(records: impl Into<Records>, board: &mut [u16], list: &mu
         return Answer::refused(record, number);
     }
     if records.start() {
-        run::<P>(record, board, list);
+        run(list, |order| carry_out::<P>(record, board, order));
     }
     P::slot(record, board)
 }
 
 /// "An accepted open or read empties the list"; the tickets go on.
-fn empty(list: &mut [u64]) {
+pub(crate) fn empty(list: &mut [u64]) {
     list[1..3].fill(0);
 }
 

@@ -32,22 +32,20 @@ impl Server {
         })
     }
 
-    /// One call, written whole before its answer is read. The head is what is called, the name and the weight; serve.c's `struct call` has the
-    /// order.
-    fn ask(&mut self, head: [u16; 3], [drive, partner]: [Drive; 2], board: Lent, list: Lent, other: Lent) -> Reply {
-        let lengths = [&board, &list, &other].map(|slice| u16::try_from(slice.bytes().len()).expect("a slice of the comparison is short"));
-        let places = [drive.capacity, drive.position, partner.capacity, partner.position];
-        // Before the 64-bit numbers there is room for two words more.
-        let words = head.iter().chain(&lengths).chain(&places).chain(&[0, 0]);
-        let mut call: Vec<u8> = words.flat_map(|n| n.to_le_bytes()).collect();
-        call.extend([drive.round, partner.round].iter().flat_map(|n| n.to_le_bytes()));
-        for slice in [&board, &list, &other] {
+    /// One call, written whole before its answer is read; serve.c's `struct call` has the order. The head is what is called, the name and the weight.
+    fn ask(&mut self, head: [u16; 3], [drive, partner]: [Drive; 2], lent: [Lent; SLICES]) -> Reply {
+        let places = [drive.capacity, drive.position, partner.capacity, partner.position, 0];
+        let mut call: Vec<u8> = head.iter().chain(&places).flat_map(|n| n.to_le_bytes()).collect();
+        let lengths = lent.each_ref().map(|slice| slice.bytes().len() as u64);
+        let numbers = [drive.round, partner.round];
+        call.extend(numbers.iter().chain(&lengths).flat_map(|n| n.to_le_bytes()));
+        for slice in &lent {
             call.extend_from_slice(slice.bytes());
         }
         let mut reply = [0; size_of::<Reply>()];
         let answered = self.calls.write_all(&call).and_then(|()| self.answers.read_exact(&mut reply));
         answered.unwrap_or_else(|why| panic!("the process ended at the call {head:?} of {drive:?}: {why}"));
-        for slice in [board, list, other] {
+        for slice in lent {
             slice.take_back(&mut self.answers);
         }
         let long = |at: usize| u64::from_le_bytes(reply[at..at + 8].try_into().unwrap());
@@ -69,6 +67,9 @@ impl Server {
 }
 
 thread_local!(static SERVER: RefCell<Server> = Server::start());
+
+/// The slices that a call can be lent, in serve.c's order.
+const SLICES: usize = 8;
 
 /// The bytes of a lent slice.
 enum Lent<'a> {
@@ -108,8 +109,13 @@ impl Lent<'_> {
     }
 }
 
+/// A call that is lent the board, the list and one slice more, or fewer.
 fn ask(call: u16, drives: [Drive; 2], name: u16, weight: u16, [board, list, other]: [Lent; 3]) -> Reply {
-    SERVER.with_borrow_mut(|server| server.ask([call, name, weight], drives, board, list, other))
+    ask_all(call, drives, name, weight, [board, list, other, NONE, NONE, NONE, NONE, NONE])
+}
+
+fn ask_all(call: u16, drives: [Drive; 2], name: u16, weight: u16, lent: [Lent; SLICES]) -> Reply {
+    SERVER.with_borrow_mut(|server| server.ask([call, name, weight], drives, lent))
 }
 
 /// Of one drive: there is no other record.
