@@ -26,8 +26,6 @@ use Rattle.pieces.proofs.Opened.{idle-good}
 use Rattle.pieces.proofs.Weight as weights
 use Rattle.pieces.proofs.Removed as removing
 use Rattle.pieces.proofs.Sums as sums
-use Rattle.pieces.proofs.Masks as masks
-use Rattle.pieces.specs.Halving.{blank}
 
 -- ---- pieces cover every leaf once
 
@@ -71,10 +69,6 @@ digit-piece C B x l few sound set =
 -- A number of leaves is at most C.
 pub weight-le : (C : ℕ) (B : List ℕ) (x : ℕ) → weight C B x ≤ C
 weight-le = weights.weight-le
-
--- What `no_sizes` gives.
-pub blank-zero : (n i : ℕ) → getD (blank n) i 0 ≡ 0
-blank-zero = masks.blank-zero
 
 -- Whether a board is good hangs on its leaves alone, and not on the entries beyond them.
 pub good-same : (C : ℕ) (B B′ : List ℕ) → ((i : ℕ) → i < C → getD B i 0 ≡ getD B′ i 0) → good C B ≡ true → good C B′ ≡ true

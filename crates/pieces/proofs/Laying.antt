@@ -8,14 +8,16 @@ use native.Mathlib.Numerals.{add-one}
 use native.Mathlib.Omega.{arith}
 use native.Mathlib.Decide.{decLt, ℕ-discrete}
 use lib.Dec.{ltb, eqb}
-use lib.ListN.{length, getD, set, take, drop, length-append, length-set, drop-of-length-le, length-replicate, List·getD-eq-default}
+use lib.ListN.{length, getD, set, take, drop, length-append, length-set, drop-of-length-le, length-replicate}
 use lib.Seq.{length-take-le, take-suc-set, append-snoc, drop-cons, getD-take}
 use borrow.Author.Tests.{eq-eqb, ne-eqb, lt-ltb, le-ltb, ltb-true, ltb-false, eqb-true, eqb-false}
+use Rattle.names.specs.Table.{numberOf}
+use Rattle.names.proofs.Laws.{number-large}
 use Rattle.pieces.specs.Board.{good, weight, Weighed}
 use Rattle.pieces.specs.Placing.{Placeable, placed}
 use Rattle.pieces.specs.Fresh.{Stream, rising, rank, ranks, laid, Placeables, largest, idle, streams, fresh}
 use Rattle.pieces.specs.Halving.{blank}
-use Rattle.pieces.specs.Laying.{weightsIn, holding, holders, Heaviest, Layable}
+use Rattle.pieces.specs.Laying.{holding, holders, Heaviest, Layable}
 use Rattle.pieces.proofs.Blocks.{by-bool}
 use Rattle.pieces.proofs.Streams.{span, leaves-span}
 use Rattle.pieces.proofs.Layouts.{largest-above, streams-among, fresh-placeable}
@@ -51,7 +53,7 @@ module _ (W : ℕ → ℕ) where
 
 module _ (M : List ℕ) where
   abbrev W : ℕ → ℕ
-  W = weightsIn M
+  W = numberOf M
 
   -- What is listed, and what is still to be looked at from x on.
   pub record Listing (N : List ℕ) (n x : ℕ) : Type 0 where
@@ -226,32 +228,31 @@ unfolding largest
 largest-leaf N zero B h = omega arith
 largest-leaf N (suc n) B h = omega (arith, largest-leaf N n B h, h n)
 
-module _ (C : ℕ) (B M : List ℕ) {r : Bool} (few : C ≤ 4095) (long : C ≤ length B) (leaf : (i : ℕ) → getD B i 0 < 65536) (found : Weighed C B M r) (sound : good C B ≡ true)
-    (size : length M ≡ 65536) where
+module _ (C : ℕ) (B M : List ℕ) {r : Bool} (few : C ≤ 4095) (long : C ≤ length B) (leaf : (i : ℕ) → getD B i 0 < 65536) (found : Weighed C B M r) (sound : good C B ≡ true) where
   highest : largest C B ≤ 65535
   highest = largest-leaf 65535 C B (λ i. omega (arith, leaf i))
 
-  weighs : weightsIn M ≡ weight C B
+  weighs : numberOf M ≡ weight C B
   weighs = fun-ext (λ x. elim (decLt x 65536) [
     | yes l ↦ found .weights (found .test ∙ sound) x l
-    | no l ↦ let z : getD M x 0 ≡ 0 = List·getD-eq-default M 0 (omega arith) in omega (arith, largest-above C B x (omega (arith, highest)))
+    | no l ↦ omega (arith, number-large M (found .table) x (omega arith), largest-above C B x (omega (arith, highest)))
   ])
 
   pub holders-few : length (holders M) ≤ 4095
   unfolding holders
   holders-few = rw weighs (omega (arith, holding-few (weight C B) 1 65535, leaves-span C 65535 B highest))
 
-  holders-streams : ranks (weightsIn M) (holders M) C ≡ streams C B
+  holders-streams : ranks (numberOf M) (holders M) C ≡ streams C B
   unfolding holders
-  holders-streams = ranks-holding (weightsIn M) (rising 1 65535) C ∙ ap (λ (W : ℕ → ℕ). ranks W (rising 1 65535) C) weighs ∙ streams-among C B 65535 highest
+  holders-streams = ranks-holding (numberOf M) (rising 1 65535) C ∙ ap (λ (W : ℕ → ℕ). ranks W (rising 1 65535) C) weighs ∙ streams-among C B 65535 highest
 
   pub layable : (D L : List ℕ) → L ≡ holders M → D ≡ idle C B → Layable C D M L
   layable D L e f = record {
     small = few;
-    sizes = size;
+    sizes = found .table;
     few = rw e holders-few;
     ready = rw (e, f, holders-streams) (fresh-placeable C B few long);
   }
 
-  pub laid-fresh : (D L : List ℕ) → L ≡ holders M → D ≡ idle C B → laid C D (ranks (weightsIn M) L C) ≡ fresh C B
+  pub laid-fresh : (D L : List ℕ) → L ≡ holders M → D ≡ idle C B → laid C D (ranks (numberOf M) L C) ≡ fresh C B
   laid-fresh D L e f = rw (e, f, holders-streams) refl

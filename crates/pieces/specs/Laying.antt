@@ -2,14 +2,11 @@
 use mathlib.Core.Path.{_≡_}
 use mathlib.Core.Bool.{cond}
 use mathlib.Core.List.{List, [], _∷_}
-use Prim.Native.Nat.{ℕ, _%_, _≤_, _<_}
+use Prim.Native.Nat.{ℕ, _≤_, _<_}
 use lib.Dec.{ltb}
 use lib.ListN.{length, getD}
+use Rattle.names.specs.Table.{Table, numberOf}
 use Rattle.pieces.specs.Fresh.{rising, ranks, Placeables}
-
--- The weights that the sizes M of a good board tell.
-abbrev pub weightsIn : List ℕ → ℕ → ℕ
-weightsIn M x = getD M x 0 % 4096
 
 -- The names of L that have a weight, in their order.
 unfoldable pub holding : (ℕ → ℕ) → List ℕ → List ℕ
@@ -18,9 +15,9 @@ holding W (x ∷ L) =
     let others = holding W L in
     cond (ltb 0 (W x)) (x ∷ others) others
 
--- All names that have one: a leaf holds 65,535 or less. No proof computes them.
+-- All names that have one, by the sizes M of a good board: a leaf holds 65,535 or less. No proof computes them.
 unfoldable pub holders : List ℕ → List ℕ
-holders M = holding (weightsIn M) (rising 1 65535)
+holders M = holding (numberOf M) (rising 1 65535)
 
 -- r is below v, and no weight of the first n names of N lies between r and v.
 pub record Heaviest (W : ℕ → ℕ) (N : List ℕ) (n v r : ℕ) : Type 0 where
@@ -30,6 +27,6 @@ pub record Heaviest (W : ℕ → ℕ) (N : List ℕ) (n v r : ℕ) : Type 0 wher
 -- A board D on which the streams of the names L, by the sizes M, can be placed.
 pub record Layable (C : ℕ) (D M L : List ℕ) : Type 0 where
   pub small : C ≤ 4095
-  pub sizes : length M ≡ 65536
+  pub sizes : Table M
   pub few : length L ≤ 4095
-  pub ready : Placeables C D (ranks (weightsIn M) L C)
+  pub ready : Placeables C D (ranks (numberOf M) L C)

@@ -6,6 +6,7 @@ ghost use mathlib.Core.List.{List};
 ghost use Prim.Native.Nat.{ℕ, suc, _+_, _^_, _≤_, _<_};
 ghost use lib.Dec.{eqb, ltb};
 ghost use lib.ListN.{getD, length, set, take};
+ghost use Rattle.names.specs.Table.{Table, Empty, taken, numberOf};
 ghost use Rattle.pieces.specs.Board as boards;
 ghost use Rattle.pieces.specs.Placing as placing;
 ghost use Rattle.pieces.specs.Tidying as tidying;
@@ -90,23 +91,23 @@ const TWICE: usize = 65537;
 
 // Notes a piece of the name x and exponent h in the mask of x, unless x is PARTS; whether there was one already.
 fn note(x: usize, h: usize, sizes: &mut [u16]) -> bool
-    requires { ⌜ (x ≤ 65536) × (h < 12) × (length (now sizes) ≡ 65536) ⌝ }
+    requires { ⌜ (x ≤ 65536) × (h < 12) × Table (now sizes) × (taken (now sizes) + halving.named x ≤ 4096) ⌝ }
     ensures { λ r. ⌜ halving.Noted x h (now (sizes .entry)) (now (sizes .exit)) r ⌝ }
 {
     if x == PARTS {
         return false;
     }
-    let m = sizes[x] as usize;
-    if (m >> h) % 2 == 1 {
+    let mask = names::find(sizes, x);
+    if (mask.number >> h) % 2 == 1 {
         return true;
     }
-    sizes[x] = (m + size_of(h)) as u16;
+    names::enter(sizes, x, mask.place, mask.number + size_of(h));
     false
 }
 
 // A block by what its halves are, of exponent h: each that is a run is a piece, and is noted, where the block is no run.
 fn meet(f: usize, g: usize, h: usize, sizes: &mut [u16]) -> usize
-    requires { ⌜ (f ≤ 65536) × (g ≤ 65536) × (h < 12) × (length (now sizes) ≡ 65536) ⌝ }
+    requires { ⌜ (f ≤ 65536) × (g ≤ 65536) × (h < 12) × Table (now sizes) × (taken (now sizes) + (halving.named f + halving.named g) ≤ 4096) ⌝ }
     ensures { λ r. ⌜ halving.Met f g h (now (sizes .entry)) (now (sizes .exit)) r ⌝ }
 {
     if f == g {
@@ -124,7 +125,7 @@ fn meet(f: usize, g: usize, h: usize, sizes: &mut [u16]) -> usize
 // The name of a leaf; PARTS beyond the board.
 fn scan_leaf(board: &[u16], c: usize, a: usize) -> usize
     requires { ⌜ halving.Block c (length (now board)) a 0 ⌝ }
-    ensures { λ r. ⌜ (r ≤ 65536) × ((M : List ℕ) → halving.Scanned c (now (board .entry)) a 0 M M r) ⌝ }
+    ensures { λ r. ⌜ (r ≤ 65536) × ((M : List ℕ) → Table M → halving.Scanned c (now (board .entry)) a 0 M M r) ⌝ }
 {
     if a < c {
         return board[a] as usize;
@@ -134,7 +135,7 @@ fn scan_leaf(board: &[u16], c: usize, a: usize) -> usize
 
 // A block of two leaves, scanned.
 fn scan_two(board: &[u16], c: usize, a: usize, sizes: &mut [u16]) -> usize
-    requires { ⌜ halving.Block c (length (now board)) a 1 × (length (now sizes) ≡ 65536) ⌝ }
+    requires { ⌜ halving.Block c (length (now board)) a 1 × Table (now sizes) × (taken (now sizes) ≤ a) ⌝ }
     ensures { λ r. ⌜ halving.Scanned c (now (board .entry)) a 1 (now (sizes .entry)) (now (sizes .exit)) r ⌝ }
 {
     let f = scan_leaf(board, c, a);
@@ -144,7 +145,7 @@ fn scan_two(board: &[u16], c: usize, a: usize, sizes: &mut [u16]) -> usize
 
 // A block of four leaves, scanned.
 fn scan_four(board: &[u16], c: usize, a: usize, sizes: &mut [u16]) -> usize
-    requires { ⌜ halving.Block c (length (now board)) a 2 × (length (now sizes) ≡ 65536) ⌝ }
+    requires { ⌜ halving.Block c (length (now board)) a 2 × Table (now sizes) × (taken (now sizes) ≤ a) ⌝ }
     ensures { λ r. ⌜ halving.Scanned c (now (board .entry)) a 2 (now (sizes .entry)) (now (sizes .exit)) r ⌝ }
 {
     let f = scan_two(board, c, a, sizes);
@@ -161,7 +162,7 @@ fn scan_four(board: &[u16], c: usize, a: usize, sizes: &mut [u16]) -> usize
 // The name of a block that is a run of one name; else PARTS, with every piece inside noted, or TWICE.
 // A run is told by its count and not halved. The last two halvings are written out: they are three calls in four.
 fn scan(board: &[u16], c: usize, a: usize, l: usize, sizes: &mut [u16]) -> usize
-    requires { ⌜ halving.Block c (length (now board)) a l × (2 ≤ l) × (length (now sizes) ≡ 65536) ⌝ }
+    requires { ⌜ halving.Block c (length (now board)) a l × (2 ≤ l) × Table (now sizes) × (taken (now sizes) ≤ a) ⌝ }
     ensures { λ r. ⌜ halving.Scanned c (now (board .entry)) a l (now (sizes .entry)) (now (sizes .exit)) r ⌝ }
 {
     if c <= a {
@@ -185,17 +186,10 @@ fn scan(board: &[u16], c: usize, a: usize, l: usize, sizes: &mut [u16]) -> usize
     meet(f, g, h, sizes)
 }
 
-// No size of any name. The array is made here and nowhere else, so that no other proof computes it.
-pub fn no_sizes() -> [u16; 65536]
-    ensures { λ r. ⌜ r ≡ halving.blank 65536 ⌝ }
-{
-    [0u16; 65536]
-}
-
-// Whether the board is good. Where it is, each name's entry of the sizes, none at entry, has the weight of the name: on a good board the sizes of its
-// pieces are the binary digits of its weight.
+// Whether the board is good. Where it is, each name has its weight in the sizes, none at entry: on a good board the sizes of its pieces are the binary digits of
+// its weight.
 pub fn weights(board: &[u16], c: usize, sizes: &mut [u16]) -> bool
-    requires { ⌜ (c ≤ length (now board)) × (c ≤ 4095) × (length (now sizes) ≡ 65536) × ((x : ℕ) → getD (now sizes) x 0 ≡ 0) ⌝ }
+    requires { ⌜ (c ≤ length (now board)) × (c ≤ 4095) × Empty (now sizes) ⌝ }
     ensures { λ r. ⌜ boards.Weighed c (now (board .entry)) (now (sizes .exit)) r ⌝ }
 {
     scan(board, c, 0, 12, sizes) != TWICE
@@ -206,7 +200,7 @@ pub fn good(board: &[u16], c: usize) -> bool
     requires { ⌜ (c ≤ length (now board)) × (c ≤ 4095) ⌝ }
     ensures { λ r. ⌜ r ≡ boards.good c (now (board .entry)) ⌝ }
 {
-    let mut sizes = no_sizes();
+    let mut sizes = names::empty();
     weights(board, c, &mut sizes)
 }
 
@@ -574,14 +568,6 @@ pub fn remove(board: &mut [u16], c: usize, name: u16)
 
 // ---- laying out afresh
 
-// The weight of a name, by the sizes of a good board.
-fn weight_in(sizes: &[u16], x: usize) -> usize
-    requires { ⌜ (length (now sizes) ≡ 65536) × (x < 65536) ⌝ }
-    ensures { λ r. ⌜ r ≡ laying.weightsIn (now (sizes .entry)) x ⌝ }
-{
-    (sizes[x] % 4096) as usize
-}
-
 // Lists a name after n others where it has a weight; how many are then listed.
 fn list_name(names: &mut [u16], n: usize, x: usize, weight: usize) -> usize
     requires { ⌜ (x < 65536) × (n < 4096) × (0 < weight → n < length (now names)) ⌝ }
@@ -596,13 +582,13 @@ fn list_name(names: &mut [u16], n: usize, x: usize, weight: usize) -> usize
 
 // Lists the names that have a weight, rising; how many they are.
 fn list_names(sizes: &[u16], names: &mut [u16]) -> usize
-    requires { ⌜ (length (now sizes) ≡ 65536) × (length (now names) ≡ 4095) × (length (laying.holders (now sizes)) ≤ 4095) ⌝ }
+    requires { ⌜ Table (now sizes) × (length (now names) ≡ 4095) × (length (laying.holders (now sizes)) ≤ 4095) ⌝ }
     ensures { λ r. ⌜ (r ≤ 4095) × (take r (now (names .exit)) ≡ laying.holders (now (sizes .entry))) ⌝ }
 {
     let mut n: usize = 0;
     let mut x: usize = 1;
     while x < 65536 {
-        n = list_name(names, n, x, weight_in(sizes, x));
+        n = list_name(names, n, x, names::number_of(sizes, x));
         x += 1;
     }
     n
@@ -622,13 +608,13 @@ fn heavier(r: usize, w: usize, below: usize) -> usize
 
 // The largest weight below some number that one of n listed names has; 0 where there is none.
 fn heaviest(sizes: &[u16], names: &[u16], n: usize, below: usize) -> usize
-    requires { ⌜ (length (now sizes) ≡ 65536) × (n ≤ length (now names)) × (n ≤ 4095) × (0 < below) ⌝ }
-    ensures { λ r. ⌜ laying.Heaviest (laying.weightsIn (now (sizes .entry))) (now (names .entry)) n below r ⌝ }
+    requires { ⌜ Table (now sizes) × (n ≤ length (now names)) × (n ≤ 4095) × (0 < below) ⌝ }
+    ensures { λ r. ⌜ laying.Heaviest (numberOf (now (sizes .entry))) (now (names .entry)) n below r ⌝ }
 {
     let mut r: usize = 0;
     let mut i: usize = 0;
     while i < n {
-        r = heavier(r, weight_in(sizes, names[i] as usize), below);
+        r = heavier(r, names::number_of(sizes, names[i] as usize), below);
         i += 1;
     }
     r
@@ -646,13 +632,13 @@ fn place_turn(board: &mut [u16], c: usize, name: u16, m: usize, w: usize)
 
 // Places the streams of one weight, by n listed names in their order.
 fn place_rank(board: &mut [u16], c: usize, sizes: &[u16], names: &[u16], n: usize, w: usize)
-    requires { ⌜ (length (now sizes) ≡ 65536) × (n ≤ length (now names)) × (n ≤ 4095) × fresh.Placeables c (now board) (fresh.rank (laying.weightsIn (now sizes)) w (take n (now names))) ⌝ }
-    ensures { λ _. ⌜ now (board .exit) ≡ fresh.laid c (now (board .entry)) (fresh.rank (laying.weightsIn (now (sizes .entry))) w (take n (now (names .entry)))) ⌝ }
+    requires { ⌜ Table (now sizes) × (n ≤ length (now names)) × (n ≤ 4095) × fresh.Placeables c (now board) (fresh.rank (numberOf (now sizes)) w (take n (now names))) ⌝ }
+    ensures { λ _. ⌜ now (board .exit) ≡ fresh.laid c (now (board .entry)) (fresh.rank (numberOf (now (sizes .entry))) w (take n (now (names .entry)))) ⌝ }
 {
     let mut i: usize = 0;
     while i < n {
         let x = names[i];
-        place_turn(board, c, x, weight_in(sizes, x as usize), w);
+        place_turn(board, c, x, names::number_of(sizes, x as usize), w);
         i += 1;
     }
 }
@@ -660,7 +646,7 @@ fn place_rank(board: &mut [u16], c: usize, sizes: &[u16], names: &[u16], n: usiz
 // Places the streams of n listed names, by falling weight. Weights that none of them has are passed over.
 fn place_all(board: &mut [u16], c: usize, sizes: &[u16], names: &[u16], n: usize)
     requires { ⌜ (n ≤ length (now names)) × laying.Layable c (now board) (now sizes) (take n (now names)) ⌝ }
-    ensures { λ _. ⌜ now (board .exit) ≡ fresh.laid c (now (board .entry)) (fresh.ranks (laying.weightsIn (now (sizes .entry))) (take n (now (names .entry))) c) ⌝ }
+    ensures { λ _. ⌜ now (board .exit) ≡ fresh.laid c (now (board .entry)) (fresh.ranks (numberOf (now (sizes .entry))) (take n (now (names .entry))) c) ⌝ }
 {
     let mut w = heaviest(sizes, names, n, c + 1);
     while 0 < w {
@@ -682,7 +668,7 @@ pub fn lay_out(board: &mut [u16], c: usize)
     requires { ⌜ (c ≤ length (now board)) × (c ≤ 4095) × (boards.good c (now board) ≡ true) ⌝ }
     ensures { λ _. ⌜ now (board .exit) ≡ fresh.fresh c (now (board .entry)) ⌝ }
 {
-    let mut sizes = no_sizes();
+    let mut sizes = names::empty();
     weights(board, c, &mut sizes);
     let mut names = no_names();
     let n = list_names(&sizes, &mut names);

@@ -8,9 +8,9 @@ use native.Mathlib.Numerals.{add-one}
 use native.Mathlib.Omega.{arith}
 use native.Mathlib.Decide.{decLt, ℕ-discrete}
 use lib.Dec.{eqb}
-use lib.ListN.{getD, set, length}
-use lib.Seq.{getD-set-same, getD-set-other}
+use lib.ListN.{getD, length}
 use borrow.Author.Tests.{eq-eqb, ne-eqb, lt-ltb, le-ltb}
+use Rattle.names.specs.Table.{Entered, numberOf}
 use Rattle.pieces.specs.Board.{weight, good}
 use Rattle.calls.proofs.Laws.{by-bool}
 use Rattle.tables.specs.Sharing.{heldFor, lowest, leads, rateFits}
@@ -34,7 +34,7 @@ module _ (B : List ℕ) (x : ℕ) where
 
 -- ---- the test of an r
 
-module _ (C : ℕ) (B T S : List ℕ) (few : C ≤ 4095) (sound : good C B ≡ true) (i : ℕ) (below : i < C) (told : getD S (getD B i 0) 0 % 4096 ≡ weight C B (getD B i 0)) where
+module _ (C : ℕ) (B T S : List ℕ) (few : C ≤ 4095) (sound : good C B ≡ true) (i : ℕ) (below : i < C) (told : numberOf S (getD B i 0) ≡ weight C B (getD B i 0)) where
   -- A stream of R leaves has its lowest leaf here just where this is a multiple of R.
   rate-multiple : (getD T i 0 ≡ 0 → ⊥) → (getD B i 0 ≡ 0 → ⊥) → weight C B (getD B i 0) ≡ heldFor (getD T i 0) → eqb (i % heldFor (getD T i 0)) 0 ≡ leads C B i
   rate-multiple n m h =
@@ -93,21 +93,19 @@ module _ (C : ℕ) (B : List ℕ) where
     | no n ↦ rw (ne-eqb (weight C B x) 0 n, lt-ltb (lowest C B x) C (lowest-held B x C (omega arith))) refl
   ]
 
-  pub marked-next : (i y : ℕ) (M M′ : List ℕ) → i < C → y ≡ getD B i 0 → y < length M → M′ ≡ cond (eqb (getD M y 0) 0) (set M y (i + 1)) M
-      → ((x : ℕ) → x < 65536 → getD M x 0 ≡ marked C B i x) → y < 65536 → (x : ℕ) → x < 65536 → getD M′ x 0 ≡ marked C B (i + 1) x
+  pub marked-next : (i y : ℕ) (M M′ : List ℕ) → i < C → y ≡ getD B i 0 → Entered M M′ y (cond (eqb (numberOf M y) 0) (i + 1) (numberOf M y))
+      → ((x : ℕ) → x < 65536 → numberOf M x ≡ marked C B i x) → y < 65536 → (x : ℕ) → x < 65536 → numberOf M′ x ≡ marked C B (i + 1) x
   unfolding marked
-  marked-next i y M M′ h e k s all small x l = elim (ℕ-discrete x y) [
-    | yes r ↦ rw (s, r, add-one i, ne-eqb (weight (suc i) B y) 0 (λ z. omega (arith, weight-hit B y i (sym e)))) (elim (ℕ-discrete (weight i B y) 0) [
+  marked-next i y M M′ h e s all small x l = elim (ℕ-discrete x y) [
+    | yes r ↦ rw (r, s .own, add-one i, ne-eqb (weight (suc i) B y) 0 (λ z. omega (arith, weight-hit B y i (sym e)))) (elim (ℕ-discrete (weight i B y) 0) [
       | yes z ↦
-          let none : getD M y 0 ≡ 0 = all y small ∙ ap (λ (b : Bool). cond b 0 (suc (lowest C B y))) (eq-eqb (weight i B y) 0 z) in
-          rw (eq-eqb (getD M y 0) 0 none, getD-set-same M y (suc i) 0 k) (ap suc (sym (lowest-is B y C i h (sym e) z)))
+          let none : numberOf M y ≡ 0 = all y small ∙ ap (λ (b : Bool). cond b 0 (suc (lowest C B y))) (eq-eqb (weight i B y) 0 z) in
+          rw (eq-eqb (numberOf M y) 0 none) (ap suc (sym (lowest-is B y C i h (sym e) z)))
       | no n ↦
-          let some : getD M y 0 ≡ suc (lowest C B y) = all y small ∙ ap (λ (b : Bool). cond b 0 (suc (lowest C B y))) (ne-eqb (weight i B y) 0 n) in
-          rw (ne-eqb (getD M y 0) 0 (λ z. omega arith)) some
+          let some : numberOf M y ≡ suc (lowest C B y) = all y small ∙ ap (λ (b : Bool). cond b 0 (suc (lowest C B y))) (ne-eqb (weight i B y) 0 n) in
+          rw (ne-eqb (numberOf M y) 0 (λ z. omega arith)) some
     ])
-    | no n ↦ rw (s, add-one i, weight-miss B x i (λ r. n (sym r ∙ sym e))) (by-bool (eqb (getD M y 0) 0)
-        (λ t. rw (t, getD-set-other M y x (suc i) 0 n) (all x l))
-        (λ f. rw f (all x l)))
+    | no n ↦ rw (s .others x n, add-one i, weight-miss B x i (λ r. n (sym r ∙ sym e))) (all x l)
   ]
 
   mark-le : (x : ℕ) → mark C B x ≤ C
@@ -120,7 +118,7 @@ module _ (C : ℕ) (B : List ℕ) where
 -- ---- marks that are taken: what stands under a name until its first leaf
 
 module _ (M B : List ℕ) where
-  unmet-start : (x : ℕ) → (x ≡ 0 → ⊥) → unmet M B 0 x ≡ getD M x 0
+  unmet-start : (x : ℕ) → (x ≡ 0 → ⊥) → unmet M B 0 x ≡ numberOf M x
   unfolding unmet weight
   unmet-start x n = rw (ne-eqb x 0 n) refl
 
@@ -152,23 +150,24 @@ module _ (M B : List ℕ) where
         ]
       ]
 
-  pub unmet-next : (S S′ : List ℕ) (i y : ℕ) → length S ≡ 65536 → y ≡ getD B i 0 → y < 65536 → S′ ≡ set S y 0 → ((x : ℕ) → x < 65536 → getD S x 0 ≡ unmet M B i x)
-      → (x : ℕ) → x < 65536 → getD S′ x 0 ≡ unmet M B (i + 1) x
-  unmet-next S S′ i y wide e k s all x l = elim (ℕ-discrete x y) [
-    | yes r ↦ rw (s, r, getD-set-same S y 0 0 (omega arith), e, unmet-hit i) refl
-    | no n ↦ rw (s, getD-set-other S y x 0 0 n, unmet-other i x (λ r. n (r ∙ sym e))) (all x l)
+  pub unmet-next : (S S′ : List ℕ) (i y : ℕ) → y ≡ getD B i 0 → Entered S S′ y 0 → ((x : ℕ) → x < 65536 → numberOf S x ≡ unmet M B i x)
+      → (x : ℕ) → x < 65536 → numberOf S′ x ≡ unmet M B (i + 1) x
+  unmet-next S S′ i y e s all x l = elim (ℕ-discrete x y) [
+    | yes r ↦ rw (r, s .own, e, unmet-hit i) refl
+    | no n ↦ rw (s .others x n, unmet-other i x (λ r. n (r ∙ sym e))) (all x l)
   ]
 
 -- The mark of idle is taken first.
-pub unmet-self : (M B : List ℕ) → 0 < length M → (x : ℕ) → x < 65536 → getD (set M 0 0) x 0 ≡ unmet (set M 0 0) B 0 x
-unmet-self M B h x l = elim (ℕ-discrete x 0) [
-  | yes e ↦ rw (e, getD-set-same M 0 0 0 h) (sym (unmet-idle (set M 0 0) B 0))
-  | no n ↦ sym (unmet-start (set M 0 0) B x n)
-]
+module _ (M M′ : List ℕ) (taken-first : Entered M M′ 0 0) (B : List ℕ) where
+  pub unmet-self : (x : ℕ) → x < 65536 → numberOf M′ x ≡ unmet M′ B 0 x
+  unmet-self x l = elim (ℕ-discrete x 0) [
+    | yes e ↦ rw e (taken-first .own ∙ sym (unmet-idle M′ B 0))
+    | no n ↦ sym (unmet-start M′ B x n)
+  ]
 
-pub origin-clear : (C : ℕ) (M B : List ℕ) (i : ℕ) → origin C (set M 0 0) B i ≡ origin C M B i
-unfolding origin
-origin-clear C M B i = by-bool (leads C B i) (λ t. rw (t, getD-set-other M 0 (getD B i 0) 0 0 (leads-name C B i t .0)) refl) (λ f. rw f refl)
+  pub origin-clear : (C i : ℕ) → origin C M′ B i ≡ origin C M B i
+  unfolding origin
+  origin-clear C i = by-bool (leads C B i) (λ t. rw (t, taken-first .others (getD B i 0) (leads-name C B i t .0)) refl) (λ f. rw f refl)
 
 -- ---- what a mark leads to
 

@@ -7,6 +7,7 @@ use mathlib.Core.Logic.{_⊎_}
 use Prim.Native.Nat.{ℕ, zero, suc, _+_, _-_, _%_, _≤_, _<_}
 use lib.Dec.{eqb, ltb}
 use lib.ListN.{getD, length}
+use Rattle.names.specs.Table.{Table, numberOf}
 use Rattle.pieces.specs.Board.{bit, weight}
 use Rattle.tables.specs.Sharing.{heldFor, lowest, leads}
 use Rattle.tables.specs.Settling.{settledAt}
@@ -32,7 +33,7 @@ passing f (suc n) = passing f n + bit (f n)
 -- An entry r at leaf i, which holds x, as the weights S by name tell it: 0, or that of a stream of R leaves that start at a multiple of R.
 unfoldable pub rateTest : List ℕ → ℕ → ℕ → ℕ → Bool
 unfolding heldFor
-rateTest S x r i = eqb r 0 || (not (eqb x 0) && (eqb (getD S x 0 % 4096) (heldFor r) && eqb (i % heldFor r) 0))
+rateTest S x r i = eqb r 0 || (not (eqb x 0) && (eqb (numberOf S x) (heldFor r) && eqb (i % heldFor r) 0))
 
 -- The leaf l decides the turn at leaf a: it is the lowest leaf of the name there, or that name is not over-allocated and l has no r either.
 pub record Decides (C : ℕ) (B T : List ℕ) (a l : ℕ) : Type 0 where
@@ -52,17 +53,17 @@ marked C B i x = cond (eqb (weight i B x) 0) 0 (suc (lowest C B x))
 
 -- M has the marks of the board B.
 pub record Marks (C : ℕ) (B M : List ℕ) : Type 0 where
-  pub names : length M ≡ 65536
-  pub marks : (x : ℕ) → x < 65536 → getD M x 0 ≡ mark C B x
+  pub table : Table M
+  pub marks : (x : ℕ) → x < 65536 → numberOf M x ≡ mark C B x
 
 -- What is left of the marks M under a name, before leaf i, where the first leaf of each name takes its mark: of idle nothing.
 unfoldable pub unmet : List ℕ → List ℕ → ℕ → ℕ → ℕ
-unmet M B i x = cond (eqb x 0) 0 (cond (eqb (weight i B x) 0) (getD M x 0) 0)
+unmet M B i x = cond (eqb x 0) 0 (cond (eqb (weight i B x) 0) (numberOf M x) 0)
 
 -- What the marks M have for leaf i: the mark of its name, at the lowest leaf of a stream.
 unfoldable pub origin : ℕ → List ℕ → List ℕ → ℕ → ℕ
 unfolding leads
-origin C M B i = cond (leads C B i) (getD M (getD B i 0) 0) 0
+origin C M B i = cond (leads C B i) (numberOf M (getD B i 0)) 0
 
 -- The entry of a table that a mark leads to.
 unfoldable pub fetched : List ℕ → ℕ → ℕ

@@ -2,9 +2,10 @@
 ghost use mathlib.Core.Path.{_≡_};
 ghost use mathlib.Core.Bool.{true, _||_};
 ghost use mathlib.Core.List.{[], _∷_};
-ghost use Prim.Native.Nat.{ℕ, _+_, _-_, _%_, _≤_, _<_};
+ghost use Prim.Native.Nat.{ℕ, _+_, _-_, _≤_, _<_};
 ghost use lib.Dec.{eqb, ltb};
-ghost use lib.ListN.{getD, length};
+ghost use lib.ListN.{length};
+ghost use Rattle.names.specs.Table.{Table, numberOf};
 ghost use Rattle.pieces.specs.Board.{good, weight};
 ghost use Rattle.tables.specs.Sharing as sharing;
 ghost use Rattle.tables.specs.Looking as looking;
@@ -54,7 +55,7 @@ fn next_entry(table: &[u16], c: usize, i: usize) -> usize
 // Whether the entry r of leaf i, which holds x, is none, or that of a stream of R leaves whose first is i. A stream whose weight is a power of two lies in one
 // run on a good board, which starts at a multiple of that power; so the first leaf is told without a look at the others.
 fn rate_fits(x: usize, r: usize, i: usize, sizes: &[u16]) -> bool
-    requires { ⌜ (x < 65536) × (r ≤ 65535) × (length (now sizes) ≡ 65536) ⌝ }
+    requires { ⌜ (x < 65536) × (r ≤ 65535) × Table (now sizes) ⌝ }
     ensures { λ s. ⌜ s ≡ looking.rateTest (now (sizes .entry)) x r i ⌝ }
 {
     if r == 0 {
@@ -64,8 +65,7 @@ fn rate_fits(x: usize, r: usize, i: usize, sizes: &[u16]) -> bool
         return false;
     }
     let held = crate::held_for(r);
-    let m = sizes[x] as usize;
-    if m % 4096 != held {
+    if names::number_of(sizes, x) != held {
         return false;
     }
     i % held == 0
@@ -73,7 +73,7 @@ fn rate_fits(x: usize, r: usize, i: usize, sizes: &[u16]) -> bool
 
 // Whether every r fits, by the weights of the names.
 fn rates_fit(board: &[u16], c: usize, rates: &[u16], sizes: &[u16]) -> bool
-    requires { ⌜ (c ≤ length (now board)) × (c ≤ length (now rates)) × (c ≤ 4095) × (length (now sizes) ≡ 65536) × (good c (now board) ≡ true) × ((x : ℕ) → x < 65536 → getD (now sizes) x 0 % 4096 ≡ weight c (now board) x) ⌝ }
+    requires { ⌜ (c ≤ length (now board)) × (c ≤ length (now rates)) × (c ≤ 4095) × Table (now sizes) × (good c (now board) ≡ true) × ((x : ℕ) → x < 65536 → numberOf (now sizes) x ≡ weight c (now board) x) ⌝ }
     ensures { λ r. ⌜ r ≡ sharing.ratesFit c (now (board .entry)) (now (rates .entry)) ⌝ }
 {
     let mut i = next_entry(rates, c, 0);
@@ -126,7 +126,7 @@ pub fn fits(board: &[u16], c: usize, rates: &[u16], owed: &[u16], owed_other: &[
     requires { ⌜ (c ≤ length (now board)) × (c ≤ length (now rates)) × (c ≤ length (now owed)) × (c ≤ length (now «owed_other»)) × (c ≤ 4095) ⌝ }
     ensures { λ r. ⌜ r ≡ sharing.fits c (now (board .entry)) (now (rates .entry)) (now (owed .entry) ∷ now («owed_other» .entry) ∷ []) ⌝ }
 {
-    let mut sizes = pieces::no_sizes();
+    let mut sizes = names::empty();
     if !pieces::weights(board, c, &mut sizes) {
         return false;
     }

@@ -4,24 +4,26 @@ ghost use mathlib.Core.Path.{_≡_};
 ghost use mathlib.Core.Bool.{_&&_, cond};
 ghost use Prim.Native.Nat.{ℕ, _+_, _≤_, _<_};
 ghost use lib.Dec.{eqb};
-ghost use lib.ListN.{getD, set, length};
+ghost use lib.ListN.{getD, length};
+ghost use Rattle.names.specs.Table.{Table, Empty, Entered, taken, numberOf};
 ghost use Rattle.tables.specs.Sharing as sharing;
 ghost use Rattle.tables.specs.Settling as settled;
 ghost use Rattle.tables.specs.Looking as looking;
 
 // Marks the name x with the leaf i, unless it is marked.
 fn mark_leaf(marks: &mut [u16], x: usize, i: usize)
-    requires { ⌜ (x < 65536) × (i < 4095) × (length (now marks) ≡ 65536) ⌝ }
-    ensures { λ _. ⌜ now (marks .exit) ≡ cond (eqb (getD (now (marks .entry)) x 0) 0) (set (now (marks .entry)) x (i + 1)) (now (marks .entry)) ⌝ }
+    requires { ⌜ (x < 65536) × (i < 4095) × Table (now marks) × (taken (now marks) < 4096) ⌝ }
+    ensures { λ _. ⌜ Entered (now (marks .entry)) (now (marks .exit)) x (cond (eqb (numberOf (now (marks .entry)) x) 0) (i + 1) (numberOf (now (marks .entry)) x)) ⌝ }
 {
-    if marks[x] == 0 {
-        marks[x] = (i + 1) as u16;
+    let mark = names::find(marks, x);
+    if mark.number == 0 {
+        names::enter(marks, x, mark.place, i + 1);
     }
 }
 
 // Marks each name with one more than its lowest leaf.
 fn mark_leaves(board: &[u16], c: usize, marks: &mut [u16])
-    requires { ⌜ (c ≤ length (now board)) × (c ≤ 4095) × (length (now marks) ≡ 65536) × ((x : ℕ) → getD (now marks) x 0 ≡ 0) ⌝ }
+    requires { ⌜ (c ≤ length (now board)) × (c ≤ 4095) × Empty (now marks) ⌝ }
     ensures { λ _. ⌜ looking.Marks c (now (board .entry)) (now (marks .exit)) ⌝ }
 {
     let mut i: usize = 0;
@@ -33,20 +35,24 @@ fn mark_leaves(board: &[u16], c: usize, marks: &mut [u16])
 
 // The mark of a name, which is met then.
 fn take_mark(marks: &mut [u16], x: usize) -> u16
-    requires { ⌜ (x < 65536) × (length (now marks) ≡ 65536) ⌝ }
-    ensures { λ r. ⌜ (r ≡ getD (now (marks .entry)) x 0) × (now (marks .exit) ≡ set (now (marks .entry)) x 0) ⌝ }
+    requires { ⌜ (x < 65536) × Table (now marks) ⌝ }
+    ensures { λ r. ⌜ (r ≡ numberOf (now (marks .entry)) x) × Entered (now (marks .entry)) (now (marks .exit)) x 0 ⌝ }
 {
-    let m = marks[x];
-    marks[x] = 0;
+    let mark = names::find(marks, x);
+    let m = mark.number as u16;
+    if m == 0 {
+        return 0;
+    }
+    names::enter(marks, x, mark.place, 0);
     m
 }
 
 // For each leaf of a board that is the lowest of a stream, the mark of its name; 0 for every other.
 fn take_marks(board: &[u16], c: usize, marks: &mut [u16], from: &mut [u16])
-    requires { ⌜ (c ≤ length (now board)) × (c ≤ 4095) × (length (now marks) ≡ 65536) × (c ≤ length (now from)) ⌝ }
+    requires { ⌜ (c ≤ length (now board)) × (c ≤ 4095) × Table (now marks) × (c ≤ length (now from)) ⌝ }
     ensures { λ _. ⌜ now (from .exit) ≡ settled.written (λ i. looking.origin c (now (marks .entry)) (now (board .entry)) i) c (now (from .entry)) ⌝ }
 {
-    marks[0] = 0;
+    take_mark(marks, 0);
     let mut i: usize = 0;
     while i < c {
         from[i] = take_mark(marks, board[i] as usize);
@@ -59,7 +65,7 @@ fn find_origins(old: &[u16], board: &[u16], c: usize, from: &mut [u16])
     requires { ⌜ (c ≤ length (now old)) × (c ≤ length (now board)) × (c ≤ 4095) × (c ≤ length (now from)) ⌝ }
     ensures { λ _. ⌜ looking.Origins c (now (old .entry)) (now (board .entry)) (now (from .exit)) ⌝ }
 {
-    let mut marks = pieces::no_sizes();
+    let mut marks = names::empty();
     mark_leaves(old, c, &mut marks);
     take_marks(board, c, &mut marks, from);
 }

@@ -3,13 +3,14 @@ use mathlib.Core.Path.{_≡_, subst}
 use Prim.Native.Nat.{ℕ, _-_, _≤_}
 use native.Mathlib.Omega.{arith}
 use borrow.Author.Needs.{needs}
-use Rattle.pieces.specs.Laying.{weightsIn, Heaviest}
+use Rattle.names.specs.Table.{numberOf}
+use Rattle.pieces.specs.Laying.{Heaviest}
 use Rattle.pieces.proofs.Laying.{heaviest-none, heaviest-more}
 use Rattle.pieces.proofs.heaviest.Statement.{statement}
 use Rattle.pieces.proofs.heaviest.Tie as tie
 
 abbrev Inv-loop : tie.InvT-loop
-Inv-loop sizes names n below r₀ i₀ r i = (i ≤ n) × Heaviest (weightsIn sizes) names i below r
+Inv-loop sizes names n below r₀ i₀ r i = (i ≤ n) × Heaviest (numberOf sizes) names i below r
 
 abbrev μ-loop : tie.MeasureT-loop
 μ-loop sizes names n below r₀ i₀ r i = n - i
@@ -17,17 +18,17 @@ abbrev μ-loop : tie.MeasureT-loop
 loop-holds : tie.Need-loop-holds Inv-loop μ-loop
 loop-holds c = (omega arith, heaviest-none _ _ _ (c .before .before .pre .3))
 
-mul-weight-in : tie.Need-mul-weight-in Inv-loop μ-loop
-mul-weight-in c = omega (arith, c .before .before .before .before .pre .2)
+mul-number-of : tie.Need-mul-number-of Inv-loop μ-loop
+mul-number-of c = omega (arith, c .before .before .before .before .pre .2)
 
-shared-slice-read-weight-in : tie.Need-shared-slice-read-weight-in Inv-loop μ-loop
-shared-slice-read-weight-in c = omega (arith, c .before .before .before .before .before .pre .1)
+shared-slice-read-number-of : tie.Need-shared-slice-read-number-of Inv-loop μ-loop
+shared-slice-read-number-of c = omega (arith, c .before .before .before .before .before .pre .1)
 
-cast-weight-in : tie.Need-cast-weight-in Inv-loop μ-loop
-cast-weight-in c = omega (arith, c .shared-slice-known3 .given (c .before .before .loop .i))
+cast-number-of : tie.Need-cast-number-of Inv-loop μ-loop
+cast-number-of c = omega (arith, c .shared-slice-known3 .given (c .before .before .loop .i))
 
-weight-in-requires : tie.Need-weight-in-requires Inv-loop μ-loop
-weight-in-requires c κs = (c .before .before .before .before .before .pre .0, omega (arith, c .shared-slice-known3 .given (c .before .before .loop .i)))
+number-of-requires : tie.Need-number-of-requires Inv-loop μ-loop
+number-of-requires c κs = (omega (arith, c .shared-slice-known3 .given (c .before .before .loop .i)), c .before .before .before .before .before .pre .0)
 
 heavier-requires : tie.Need-heavier-requires Inv-loop μ-loop
 heavier-requires c κs = search needs
@@ -42,14 +43,14 @@ loop-again : tie.Need-loop-again Inv-loop μ-loop
 loop-again c =
     let a = c .before .before .before .before .before .before .before .args in
     let L = c .before .before .before .before .loop in
-    (omega arith, rw (c .heavier .ensures, c .before .weight-in .ensures) (heaviest-more (weightsIn (a .sizes .now)) (a .names .now) (L .i) (a .below) (L .r) (L .inv .1)))
+    (omega arith, rw (c .heavier .ensures, c .before .number-of .ensures) (heaviest-more (numberOf (a .sizes .now)) (a .names .now) (L .i) (a .below) (L .r) (L .inv .1)))
 
 returns : tie.Need-returns Inv-loop μ-loop
 returns c =
     let a = c .before .before .before .before .args in
     let L = c .before .loop in
     let e : L .i ≡ a .n = omega arith in
-    subst (λ (n : ℕ). Heaviest (weightsIn (a .sizes .now)) (a .names .now) n (a .below) (L .r)) e (L .inv .1)
+    subst (λ (n : ℕ). Heaviest (numberOf (a .sizes .now)) (a .names .now) n (a .below) (L .r)) e (L .inv .1)
 
 pub heaviest-spec : {M : Type 1} → statement M
 heaviest-spec =
@@ -58,10 +59,10 @@ heaviest-spec =
     Inv-loop
     μ-loop
     loop-holds
-    mul-weight-in
-    shared-slice-read-weight-in
-    cast-weight-in
-    weight-in-requires
+    mul-number-of
+    shared-slice-read-number-of
+    cast-number-of
+    number-of-requires
     heavier-requires
     add-i
     loop-less

@@ -1,23 +1,23 @@
 -- `pieces::lay_out` meets its contract. Assumes nothing.
-use mathlib.Core.Path.{_∙_}
+use mathlib.Core.Path.{refl, _∙_}
 use native.Mathlib.Omega.{arith}
 use borrow.Author.Needs.{needs}
-use Rattle.pieces.proofs.Masks.{blank-zero}
+use Rattle.names.proofs.Laws.{blank-empty}
 use Rattle.pieces.proofs.Laying.{holders-few, layable, laid-fresh}
 use Rattle.pieces.proofs.lay_out.Statement.{statement}
 use Rattle.pieces.proofs.lay_out.Tie as tie
 
-no-sizes-requires : tie.Need-no-sizes-requires
-no-sizes-requires c κs = search needs
+empty-requires : tie.Need-empty-requires
+empty-requires c κs = search needs
 
 slice-aggregate-weights : tie.Need-slice-aggregate-weights
 slice-aggregate-weights c = search needs
 
 weights-requires : tie.Need-weights-requires
 weights-requires c κs =
-    let e = c .before .before .no-sizes .ensures in
+    let e = c .before .before .empty .ensures in
     let p = c .before .before .before .before .pre in
-    (p .0, p .1, search needs, λ x. rw e (blank-zero 65536 x))
+    (p .0, p .1, rw e (blank-empty 12290 refl))
 
 no-names-requires : tie.Need-no-names-requires
 no-names-requires c κs = search needs
@@ -33,7 +33,7 @@ list-names-requires c κs =
     let a = c .before .before .before .before .before .before .before .before .before in
     let p = a .pre in
     let k = c .before .before .before .before .before .before .before .before .slice-known .given in
-    (search needs, search needs, holders-few _ (a .args .board .now) _ (p .1) (p .0) (λ i. omega (arith, k i)) (c .before .before .before .before .weights .ensures) (p .2) (search needs))
+    (c .before .before .before .before .weights .ensures .table, search needs, holders-few _ (a .args .board .now) _ (p .1) (p .0) (λ i. omega (arith, k i)) (c .before .before .before .before .weights .ensures) (p .2))
 
 fill-requires : tie.Need-fill-requires
 fill-requires c κs = search needs
@@ -50,7 +50,7 @@ place-all-requires c κs =
     let p = a .pre in
     let k = c .before .before .before .before .before .before .before .before .before .before .before .before .before .before .before .before .before .slice-known .given in
     let l = c .before .before .before .before .before .before .before .before .list-names .ensures in
-    (search needs, layable _ (a .args .board .now) _ (p .1) (p .0) (λ i. omega (arith, k i)) (c .before .before .before .before .before .before .before .before .before .before .before .before .before .weights .ensures) (p .2) (search needs) _ _ (l .1) (c .before .before .before .before .before .fill .ensures))
+    (search needs, layable _ (a .args .board .now) _ (p .1) (p .0) (λ i. omega (arith, k i)) (c .before .before .before .before .before .before .before .before .before .before .before .before .before .weights .ensures) (p .2) _ _ (l .1) (c .before .before .before .before .before .fill .ensures))
 
 same-length : tie.Need-same-length
 same-length c = search needs
@@ -62,13 +62,13 @@ returns c =
     let k = c .before .before .before .before .before .before .before .before .before .before .before .before .before .before .before .before .before .before .before .before .slice-known .given in
     let l = c .before .before .before .before .before .before .before .before .before .before .before .list-names .ensures in
     c .before .before .place-all .ensures
-    ∙ laid-fresh _ (a .args .board .now) _ (p .1) (p .0) (λ i. omega (arith, k i)) (c .before .before .before .before .before .before .before .before .before .before .before .before .before .before .before .before .weights .ensures) (p .2) (search needs) _ _ (l .1) (c .before .before .before .before .before .before .before .before .fill .ensures)
+    ∙ laid-fresh _ (a .args .board .now) _ (p .1) (p .0) (λ i. omega (arith, k i)) (c .before .before .before .before .before .before .before .before .before .before .before .before .before .before .before .before .weights .ensures) (p .2) _ _ (l .1) (c .before .before .before .before .before .before .before .before .fill .ensures)
 
 pub lay-out-spec : {M : Type 1} → statement M
 lay-out-spec =
     tie.close
     (tie.spec
-    no-sizes-requires
+    empty-requires
     slice-aggregate-weights
     weights-requires
     no-names-requires

@@ -17,8 +17,8 @@ abbrev μ-loop : tie.MeasureT-loop
 loop-holds : tie.Need-loop-holds Inv-loop μ-loop
 loop-holds c = (omega arith, listing-none _ _)
 
-weight-in-requires : tie.Need-weight-in-requires Inv-loop μ-loop
-weight-in-requires c κs = (c .before .before .before .before .before .pre .0, c .before .loop-test .taken)
+number-of-requires : tie.Need-number-of-requires Inv-loop μ-loop
+number-of-requires c κs = (c .before .loop-test .taken, c .before .before .before .before .before .pre .0)
 
 list-name-requires : tie.Need-list-name-requires Inv-loop μ-loop
 list-name-requires c κs =
@@ -26,7 +26,7 @@ list-name-requires c κs =
     let L = c .before .before .before .loop in
     let t = c .before .before .loop-test .taken in
     let s = L .inv .1 in
-    let e = c .weight-in .ensures in
+    let e = c .number-of .ensures in
     (t, omega (arith, s .long, L .inv .0, p .1), λ h. omega (arith, listing-place _ _ _ _ s t (p .2) (rw e at h), L .inv .0, p .1))
 
 add-x : tie.Need-add-x Inv-loop μ-loop
@@ -41,7 +41,7 @@ loop-again c =
     let L = c .before .before .before .before .before .before .loop in
     let t = c .before .before .before .before .before .loop-test .taken in
     let f = c .before .before .list-name in
-    let e = c .before .before .before .weight-in .ensures in
+    let e = c .before .before .before .number-of .ensures in
     let size = L .inv .0 in
     (omega (arith, f .kept), rw (f .ensures .0, f .ensures .1, e) (listing-next _ (L .names) (L .n) (L .x) (L .inv .1) t (omega (arith, p .1)) (p .2)))
 
@@ -61,7 +61,7 @@ list-names-spec =
     Inv-loop
     μ-loop
     loop-holds
-    weight-in-requires
+    number-of-requires
     list-name-requires
     add-x
     loop-less

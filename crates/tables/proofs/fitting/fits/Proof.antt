@@ -4,19 +4,19 @@ use borrow.Author.Needs.{needs}
 use mathlib.Core.Path.{refl, sym, _∙_}
 use native.Mathlib.Omega.{arith}
 use borrow.Author.Tests.{not-true, not-false}
-use Rattle.pieces.proofs.Laws.{blank-zero}
+use Rattle.names.proofs.Laws.{blank-empty}
 use Rattle.tables.proofs.Entries.{fits-two}
 use Rattle.tables.proofs.fitting.fits.Statement.{statement}
 use Rattle.tables.proofs.fitting.fits.Tie as tie
 
-no-sizes-requires : tie.Need-no-sizes-requires
-no-sizes-requires c κs = search needs
+empty-requires : tie.Need-empty-requires
+empty-requires c κs = search needs
 
 slice-aggregate-weights : tie.Need-slice-aggregate-weights
 slice-aggregate-weights c = search needs
 
 weights-requires : tie.Need-weights-requires
-weights-requires c κs = (omega arith, omega arith, search needs, λ x. rw (c .before .no-sizes .ensures) (blank-zero 65536 x))
+weights-requires c κs = (omega arith, omega arith, rw (c .before .empty .ensures) (blank-empty 12290 refl))
 
 returns : tie.Need-returns
 returns c = rw (fits-two _ _ _ _ _, sym (c .before .before .weights .ensures .test) ∙ not-true _ (c .if1 .taken)) refl
@@ -28,7 +28,7 @@ rates-fit-requires : tie.Need-rates-fit-requires
 rates-fit-requires c κs =
     let t = not-false _ (c .before .if1 .left) in
     let w = c .before .before .before .weights .ensures in
-    (omega arith, omega arith, omega arith, search needs, sym (w .test) ∙ t, w .weights t)
+    (omega arith, omega arith, omega arith, w .table, sym (w .test) ∙ t, w .weights t)
 
 returns-2 : tie.Need-returns-2
 returns-2 c =
@@ -62,7 +62,7 @@ pub fits-spec : {M : Type 1} → statement M
 fits-spec =
     tie.close
     (tie.spec
-    no-sizes-requires
+    empty-requires
     slice-aggregate-weights
     weights-requires
     returns

@@ -19,21 +19,15 @@ returns-2 c = simp (ne-eqb _ _ (c .before .if1 .left), eq-eqb _ _ (c .if2 .taken
 held-for-requires : tie.Need-held-for-requires
 held-for-requires c κs = search needs
 
-mul-m : tie.Need-mul-m
-mul-m c = search needs
-
-shared-slice-read-m : tie.Need-shared-slice-read-m
-shared-slice-read-m c = search needs
-
-cast-m : tie.Need-cast-m
-cast-m c = omega (arith, c .shared-slice-known2 .given (c .before .before .before .before .before .args .x))
+number-of-requires : tie.Need-number-of-requires
+number-of-requires c κs = (c .before .before .before .before .pre .0, c .before .before .before .before .pre .2)
 
 returns-3 : tie.Need-returns-3
 unfolding looking.rateTest
 returns-3 c =
     let s = ne-eqb _ _ (c .before .before .before .before .if1 .left) in
     let t = ne-eqb _ _ (c .before .before .before .if2 .left) in
-    let u = rw (c .before .before .held-for .ensures) at (ne-eqb _ _ (c .if3 .taken)) in
+    let u = rw (c .before .number-of .ensures, c .before .before .held-for .ensures) at (ne-eqb _ _ (c .if3 .taken)) in
     simp (s, t, u)
 
 rem-result : tie.Need-rem-result
@@ -44,7 +38,7 @@ unfolding looking.rateTest
 returns-4 c =
     let s = ne-eqb _ _ (c .before .before .before .before .if1 .left) in
     let t = ne-eqb _ _ (c .before .before .before .if2 .left) in
-    let u = rw (c .before .before .held-for .ensures) at (eq-eqb _ _ (c .if3 .left)) in
+    let u = rw (c .before .number-of .ensures, c .before .before .held-for .ensures) at (eq-eqb _ _ (c .if3 .left)) in
     simp (s, t, u, c .before .before .held-for .ensures)
 
 pub rate-fits-spec : {M : Type 1} → statement M
@@ -54,9 +48,7 @@ rate-fits-spec =
     returns
     returns-2
     held-for-requires
-    mul-m
-    shared-slice-read-m
-    cast-m
+    number-of-requires
     returns-3
     rem-result
     returns-4)

@@ -61,7 +61,7 @@ cast-rate-fits-2 c = omega (arith, c .shared-slice-known5 .given (c .before .bef
 rate-fits-requires : tie.Need-rate-fits-requires Inv-loop μ-loop
 rate-fits-requires c κs =
     let i = c .before .before .before .loop .i in
-    omega (arith, c .before .shared-slice-known4 .given i, c .shared-slice-known5 .given i)
+    (omega (arith, c .before .shared-slice-known4 .given i), omega (arith, c .shared-slice-known5 .given i), c .before .before .before .before .before .before .before .before .pre .3)
 
 returns : tie.Need-returns Inv-loop μ-loop
 unfolding sharing.ratesFit

@@ -1,32 +1,32 @@
 -- `tables::settling::find_origins` meets its contract.
 -- Assumes nothing.
 use borrow.Author.Needs.{needs}
-use mathlib.Core.Path.{ap, _∙_}
+use mathlib.Core.Path.{refl, ap, _∙_}
 use mathlib.Core.List.{List}
 use Prim.Native.Nat.{ℕ}
 use native.Mathlib.Omega.{arith}
 use lib.ListN.{getD}
-use Rattle.pieces.proofs.Laws.{blank-zero}
+use Rattle.names.proofs.Laws.{blank-empty}
 use Rattle.tables.specs.Looking as looking
 use Rattle.tables.proofs.Entries.{written-at}
 use Rattle.tables.proofs.Noting.{origins-found}
 use Rattle.tables.proofs.settling.find_origins.Statement.{statement}
 use Rattle.tables.proofs.settling.find_origins.Tie as tie
 
-no-sizes-requires : tie.Need-no-sizes-requires
-no-sizes-requires c κs = search needs
+empty-requires : tie.Need-empty-requires
+empty-requires c κs = search needs
 
 slice-aggregate-mark-leaves : tie.Need-slice-aggregate-mark-leaves
 slice-aggregate-mark-leaves c = search needs
 
 mark-leaves-requires : tie.Need-mark-leaves-requires
-mark-leaves-requires c κs = (omega arith, omega arith, search needs, λ x. rw (c .before .no-sizes .ensures) (blank-zero 65536 x))
+mark-leaves-requires c κs = (omega arith, omega arith, rw (c .before .empty .ensures) (blank-empty 12290 refl))
 
 slice-aggregate-take-marks : tie.Need-slice-aggregate-take-marks
 slice-aggregate-take-marks c = search needs
 
 take-marks-requires : tie.Need-take-marks-requires
-take-marks-requires c κs = search needs
+take-marks-requires c κs = (omega arith, omega arith, c .before .before .before .mark-leaves .ensures .table, omega arith)
 
 same-length : tie.Need-same-length
 same-length c = search needs
@@ -43,7 +43,7 @@ pub find-origins-spec : {M : Type 1} → statement M
 find-origins-spec =
     tie.close
     (tie.spec
-    no-sizes-requires
+    empty-requires
     slice-aggregate-mark-leaves
     mark-leaves-requires
     slice-aggregate-take-marks

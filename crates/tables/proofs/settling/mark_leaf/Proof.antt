@@ -1,47 +1,38 @@
 -- `tables::settling::mark_leaf` meets its contract.
 -- Assumes nothing.
 use borrow.Author.Needs.{needs}
+use mathlib.Core.Path.{_≡_, sym, _∙_}
 use borrow.Author.Tests.{eq-eqb, ne-eqb}
+use Rattle.names.specs.Table.{numberOf}
+use Rattle.names.proofs.Laws.{entered-same}
 use Rattle.tables.proofs.settling.mark_leaf.Statement.{statement}
 use Rattle.tables.proofs.settling.mark_leaf.Tie as tie
 
-mul-if1 : tie.Need-mul-if1
-mul-if1 c = search needs
+find-requires : tie.Need-find-requires
+find-requires c κs = search needs
 
-slice-read-if1 : tie.Need-slice-read-if1
-slice-read-if1 c = search needs
+add-enter : tie.Need-add-enter
+add-enter c = search needs
 
-add-marks : tie.Need-add-marks
-add-marks c = search needs
-
-cast-marks : tie.Need-cast-marks
-cast-marks c = search needs
-
-mul-marks : tie.Need-mul-marks
-mul-marks c = search needs
-
-slice-write-marks : tie.Need-slice-write-marks
-slice-write-marks c = search needs
+enter-requires : tie.Need-enter-requires
+enter-requires c κs = search needs
 
 same-length : tie.Need-same-length
 same-length c = search needs
 
 returns : tie.Need-returns
-returns c = simp (eq-eqb _ _ (c .if1 .taken))
+returns c =
+    let a = c .before .before .before .before .before .before .before .before .before .args in
+    let none : numberOf (a .marks .now) (a .x) ≡ 0 = sym (c .before .before .before .before .before .before .find .ensures .number) ∙ c .before .before .before .before .if1 .taken in
+    rw (eq-eqb (numberOf (a .marks .now) (a .x)) 0 none) (c .before .before .enter .ensures)
+
+same-length-2 : tie.Need-same-length-2
+same-length-2 c = search needs
 
 returns-2 : tie.Need-returns-2
-returns-2 c = simp (ne-eqb _ _ (c .if1 .left))
+returns-2 c =
+    let a = c .before .before .before .before .before in
+    rw (ne-eqb (numberOf (a .args .marks .now) (a .args .x)) 0 (λ z. c .if1 .left (c .before .before .find .ensures .number ∙ z))) (entered-same (a .args .marks .now) (a .pre .2) (a .args .x))
 
 pub mark-leaf-spec : {M : Type 1} → statement M
-mark-leaf-spec =
-    tie.close
-    (tie.spec
-    mul-if1
-    slice-read-if1
-    add-marks
-    cast-marks
-    mul-marks
-    slice-write-marks
-    same-length
-    returns
-    returns-2)
+mark-leaf-spec = tie.close (tie.spec find-requires add-enter enter-requires same-length returns same-length-2 returns-2)

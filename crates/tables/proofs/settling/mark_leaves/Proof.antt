@@ -4,20 +4,23 @@ use borrow.Author.Needs.{needs}
 use mathlib.Core.Path.{_≡_, refl, sym, ap, _∙_}
 use Prim.Native.Nat.{ℕ, _-_, _≤_, _<_}
 use native.Mathlib.Omega.{arith}
-use lib.ListN.{length, getD}
+use lib.ListN.{getD}
+use Rattle.names.specs.Table.{Table, taken, numberOf}
 use Rattle.tables.specs.Looking as looking
 use Rattle.tables.proofs.Noting.{marked-start, marked-end, marked-next}
 use Rattle.tables.proofs.settling.mark_leaves.Statement.{statement}
 use Rattle.tables.proofs.settling.mark_leaves.Tie as tie
 
 abbrev Inv-loop : tie.InvT-loop
-Inv-loop board c marks₀ i₀ marks i = (i ≤ c) × (length marks ≡ 65536) × ((x : ℕ) → x < 65536 → getD marks x 0 ≡ looking.marked c board i x)
+Inv-loop board c marks₀ i₀ marks i = (i ≤ c) × Table marks × (taken marks ≤ i) × ((x : ℕ) → x < 65536 → numberOf marks x ≡ looking.marked c board i x)
 
 abbrev μ-loop : tie.MeasureT-loop
 μ-loop board c marks₀ i₀ marks i = c - i
 
 loop-holds : tie.Need-loop-holds Inv-loop μ-loop
-loop-holds c = (omega arith, c .before .before .pre .2, λ x l. c .before .before .pre .3 x ∙ sym (marked-start _ _ x))
+loop-holds c =
+    let e = c .before .before .pre .2 in
+    (omega arith, e .table, omega (arith, e .none), λ x l. e .numbers x ∙ sym (marked-start _ _ x))
 
 mul-mark-leaf : tie.Need-mul-mark-leaf Inv-loop μ-loop
 mul-mark-leaf c = omega arith
@@ -29,7 +32,9 @@ cast-mark-leaf : tie.Need-cast-mark-leaf Inv-loop μ-loop
 cast-mark-leaf c = omega (arith, c .shared-slice-known2 .given (c .before .before .before .loop .i))
 
 mark-leaf-requires : tie.Need-mark-leaf-requires Inv-loop μ-loop
-mark-leaf-requires c κs = omega (arith, c .shared-slice-known2 .given (c .before .before .before .loop .i))
+mark-leaf-requires c κs =
+    let L = c .before .before .before .loop in
+    (omega (arith, c .shared-slice-known2 .given (L .i)), omega arith, L .inv .1, omega (arith, L .inv .2))
 
 add-i : tie.Need-add-i Inv-loop μ-loop
 add-i c = omega arith
@@ -41,18 +46,19 @@ loop-again : tie.Need-loop-again Inv-loop μ-loop
 loop-again c =
     let a = c .before .before .before .before .before .before .before .before .before .args in
     let L = c .before .before .before .before .before .before .loop in
-    let small : getD (a .board .now) (L .i) 0 < length (L .marks) = omega (arith, c .before .before .before .shared-slice-known2 .given (L .i), L .inv .1) in
-    (omega arith, omega (arith, c .before .before .mark-leaf .kept .0, L .inv .1), marked-next (a .c) (a .board .now) (L .i) _ (L .marks) _ (c .before .before .before .before .before .loop-test .taken) refl small (c .before .before .mark-leaf .ensures) (L .inv .2) (omega (arith, L .inv .1)))
+    let small : getD (a .board .now) (L .i) 0 < 65536 = omega (arith, c .before .before .before .shared-slice-known2 .given (L .i)) in
+    let e = c .before .before .mark-leaf .ensures in
+    (omega arith, e .table, omega (arith, e .many, L .inv .2), marked-next (a .c) (a .board .now) (L .i) _ (L .marks) _ (c .before .before .before .before .before .loop-test .taken) refl e (L .inv .3) small)
 
 same-length : tie.Need-same-length Inv-loop μ-loop
-same-length c = search needs
+same-length c = omega (arith, c .before .loop .inv .1 .size, c .before .before .before .before .pre .2 .table .size)
 
 returns : tie.Need-returns Inv-loop μ-loop
 returns c =
     let e : c .before .loop .i ≡ c .before .before .before .before .args .c = omega arith in
     record {
-      names = c .before .loop .inv .1;
-      marks = λ x l. c .before .loop .inv .2 x l ∙ ap (λ (k : ℕ). looking.marked (c .before .before .before .before .args .c) (c .before .before .before .before .args .board .now) k x) e ∙ marked-end _ _ x;
+      table = c .before .loop .inv .1;
+      marks = λ x l. c .before .loop .inv .3 x l ∙ ap (λ (k : ℕ). looking.marked (c .before .before .before .before .args .c) (c .before .before .before .before .args .board .now) k x) e ∙ marked-end _ _ x;
     }
 
 pub mark-leaves-spec : {M : Type 1} → statement M
