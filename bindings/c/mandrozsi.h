@@ -24,10 +24,12 @@
 extern "C" {
 #endif
 
-/* The largest capacity; the bytes of a sheet's block, and the leaves in it. A sheet has C / 253 blocks, rounded up. */
+/* The largest capacity; the bytes of a sheet's block, and the leaves in it. A sheet has C / 253 blocks, rounded up. A sheet that lists pieces has
+ * as many blocks as its pieces take, rounded up, and at least one. */
 #define MANDROZSI_LARGEST 4095
 #define MANDROZSI_BLOCK_BYTES 512
 #define MANDROZSI_LEAVES_PER_BLOCK 253
+#define MANDROZSI_PIECES_PER_BLOCK 84
 
 /* The numbers of a waiting list: the last ticket given, how many answers are to be fetched, how many orders wait, and 64 places of four. */
 #define MANDROZSI_LIST 259
@@ -72,7 +74,7 @@ enum mandrozsi_number {
     MANDROZSI_CAPACITY = 1,  /* C is 0 or above 4,095 */
     MANDROZSI_SHORT = 2,     /* the board has fewer than C entries, or the list fewer than MANDROZSI_LIST numbers; or there are under C - 1 marks */
     MANDROZSI_POSITION = 3,  /* p is 0 or above 2^k - 1; of two drives also: their capacities differ */
-    MANDROZSI_MIDROUND = 4,  /* p is not 1 (save and fresh), of two drives that of either */
+    MANDROZSI_MIDROUND = 4,  /* p is not 1 (save, fresh, to_leaves), of two drives that of either; save_pieces: their positions differ */
     MANDROZSI_DAMAGED = 5,   /* the board is not good: two pieces of one name, or two idle ones, have equal size */
     MANDROZSI_NAME = 6,      /* the name is 0 */
     MANDROZSI_WEIGHT = 7,    /* the weight is 0 */
@@ -124,6 +126,21 @@ mandrozsi_reply mandrozsi_save(mandrozsi_drive drive, const uint16_t *board, siz
  * Refused, looked for in this order: 12 (under 512 bytes), 1, 2, 12 (anything else of the layout), 5. */
 mandrozsi_reply mandrozsi_read(const uint8_t *sheet, size_t length, uint16_t *board, size_t entries, uint64_t *list, size_t numbers);
 
+/* A second form of sheet, which lists the pieces that are not idle, by start: a block has its number plus 32,768, C, p, up to
+ * MANDROZSI_PIECES_PER_BLOCK entries (name, start, exponent of the size), zeros after them, and the sum. It is saved at any p.
+ * Done: first = the bytes written. Refused: 1 to 3, 5, 11. */
+mandrozsi_reply mandrozsi_save_pieces(mandrozsi_drive drive, const uint16_t *board, size_t entries, uint8_t *output, size_t length);
+
+/* Sets the leaves of a board to those of a sheet that lists pieces and empties the list. Done: a record at the p of the sheet, of round 0. Where
+ * that is not 1 the round that runs is cut: what is promised of full rounds begins at the next p = 1.
+ * Refused as mandrozsi_read. It answers 12 to a sheet of the other form, as mandrozsi_read does to one of this. */
+mandrozsi_reply mandrozsi_read_pieces(const uint8_t *sheet, size_t length, uint16_t *board, size_t entries, uint64_t *list, size_t numbers);
+
+/* Write the sheet of the same board in the other form to the start of the output, and nothing beyond it. Done: first = the bytes written. What is
+ * read is refused as by its read, but for 2; then 4 where p is not 1 (to_leaves), and 11. */
+mandrozsi_said mandrozsi_to_pieces(const uint8_t *sheet, size_t bytes, uint8_t *output, size_t length);
+mandrozsi_said mandrozsi_to_leaves(const uint8_t *sheet, size_t bytes, uint8_t *output, size_t length);
+
 /* Fetches what an order was answered when it was carried out: that answer's number, and first = its value. Its place is then free, and the
  * ticket is known no longer. It looks at nothing but the list.
  * 13, first = the ticket: the order waits. 15: no such ticket, or a list that is too short. */
@@ -140,7 +157,8 @@ mandrozsi_reply mandrozsi_fresh(mandrozsi_drive drive, uint16_t *board, size_t e
  *
  * Each call is that of one drive, with these differences. A change is made at once only where both records are at p = 1 and no order waits, and the
  * orders that wait are carried out by the slot call, of either drive, that finds both there. 1 and 3 are for either record, 2 goes by the larger C
- * and comes before 3, and unequal capacities are 3. Save and fresh are 4 where either drive is away from p = 1.
+ * and comes before 3, and unequal capacities are 3. Save and fresh are 4 where either drive is away from p = 1, save_pieces where their positions
+ * differ: mandrozsi_read_pieces gives both one p.
  *
  * Drives that run out of step may never both be at p = 1: then the orders wait on, and once 64 places are taken a change is 14. Hold the drive that
  * is first at p = 1 back until the other is there too. With one record in both places each call is that of one drive. */
@@ -154,7 +172,8 @@ mandrozsi_reply mandrozsi_pair_round(mandrozsi_drive own, mandrozsi_drive other,
 mandrozsi_reply mandrozsi_pair_report(mandrozsi_drive own, mandrozsi_drive other, const uint16_t *board, size_t entries, uint16_t name);
 mandrozsi_reply mandrozsi_pair_save(mandrozsi_drive own, mandrozsi_drive other, const uint16_t *board, size_t entries, uint8_t *output,
                                     size_t length);
-
+mandrozsi_reply mandrozsi_pair_save_pieces(mandrozsi_drive own, mandrozsi_drive other, const uint16_t *board, size_t entries, uint8_t *output,
+                                           size_t length);
 mandrozsi_reply mandrozsi_pair_fresh(mandrozsi_drive own, mandrozsi_drive other, uint16_t *board, size_t entries);
 
 /* Carries out a table of changes from the first entry to the last, each as the single call would, and writes each one's answer to its place; nothing

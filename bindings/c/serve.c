@@ -21,6 +21,7 @@ enum { ROOM = 65536, MARKED = 64, MARK = 0xA5 };
 enum { OPEN, ADD, REMOVE, SLOT, ROUND, REPORT, SAVE, READ, FETCH };
 enum { PAIR_ADD = 9, PAIR_REMOVE, PAIR_SLOT, PAIR_ROUND, PAIR_REPORT, PAIR_SAVE, PAIR_BATCH, PAIR_SLOT_HERE };
 enum { WALK = 17, FRESH, PAIR_FRESH };
+enum { SAVE_PIECES = 20, READ_PIECES, TO_PIECES, TO_LEAVES, PAIR_SAVE_PIECES };
 
 /* The slices that a call can be lent: OTHER is the output, sheet, marks or table of changes; then come the tables, and what is only read beside an
  * output: a sheet, or the starts and names of a group table. */
@@ -79,6 +80,7 @@ static mandrozsi_reply make(const struct call *c, uint8_t *lent[SLICES])
     mandrozsi_drive drive = {c->capacity, c->position, c->round}, partner = {c->other_capacity, c->other_position, c->other_round};
     uint16_t *names = (uint16_t *)(void *)other;
     mandrozsi_entry *table = (mandrozsi_entry *)(void *)other;
+    uint8_t *given = lent[GIVEN];
     mandrozsi_said said;
     switch (c->number) {
     case OPEN: return mandrozsi_open(c->capacity, board, entries, list, numbers);
@@ -104,6 +106,11 @@ static mandrozsi_reply make(const struct call *c, uint8_t *lent[SLICES])
     case WALK: return (mandrozsi_reply){{0, 0, 0}, mandrozsi_walk(c->capacity, board, entries, names, length / sizeof *names)};
     case FRESH: return mandrozsi_fresh(drive, board, entries);
     case PAIR_FRESH: return mandrozsi_pair_fresh(drive, partner, board, entries);
+    case SAVE_PIECES: return mandrozsi_save_pieces(drive, board, entries, other, length);
+    case READ_PIECES: return mandrozsi_read_pieces(other, length, board, entries, list, numbers);
+    case TO_PIECES: return (mandrozsi_reply){{0, 0, 0}, mandrozsi_to_pieces(given, c->bytes[GIVEN], other, length)};
+    case TO_LEAVES: return (mandrozsi_reply){{0, 0, 0}, mandrozsi_to_leaves(given, c->bytes[GIVEN], other, length)};
+    case PAIR_SAVE_PIECES: return mandrozsi_pair_save_pieces(drive, partner, board, entries, other, length);
     }
     end("there is no such call");
 }

@@ -27,11 +27,13 @@
 use std::fmt;
 
 mod batch;
+mod convert;
 mod pair;
 pub mod raw;
 mod tree;
 
 pub use batch::Entry;
+pub use convert::{to_leaves, to_pieces};
 pub use pair::{Pair, Side};
 pub use tree::{walk, Walked};
 
@@ -56,7 +58,8 @@ pub enum Refusal {
     Short,
     /// p is 0 or above 2^k - 1; of two drives also: their capacities differ.
     Position,
-    /// p is not 1: a board is saved, or laid out afresh, only at the start of a round, of two drives that of both.
+    /// p is not 1: a board is saved by its leaves, or laid out afresh, only at the start of a round, of two drives that of both; by its pieces two
+    /// drives save it only where both are at one position.
     Midround,
     /// The board is not good: two pieces of one name, or two idle ones, have equal size.
     Damaged,
@@ -283,6 +286,8 @@ impl Drive {
     pub const BLOCK_BYTES: usize = 512;
     /// The leaves of a sheet's block.
     pub const LEAVES_PER_BLOCK: usize = 253;
+    /// The entries of a block of a sheet that lists pieces.
+    pub const PIECES_PER_BLOCK: usize = 84;
 
     /// Makes the first `capacity` entries of a board idle, and empties the list: a record at the start of a round. Refused: 1, 2.
     pub fn open(capacity: u16, board: &mut [u16], list: &mut [u64]) -> Result<Drive, Refusal> {
@@ -346,6 +351,21 @@ impl Drive {
     pub fn read(sheet: &[u8], board: &mut [u16], list: &mut [u64]) -> Result<Drive, Refusal> {
         let (entries, numbers) = (board.len(), list.len());
         let reply = unsafe { raw::mandrozsi_read(sheet.as_ptr(), sheet.len(), board.as_mut_ptr(), entries, list.as_mut_ptr(), numbers) };
+        Ok(reply.done()?.drive)
+    }
+
+    /// Writes the sheet that lists the board's pieces to the start of the output and nothing beyond it, at any position: the bytes written.
+    /// Refused: 1 to 3, 5, 11.
+    pub fn save_pieces(self, board: &[u16], output: &mut [u8]) -> Result<usize, Refusal> {
+        let reply = unsafe { raw::mandrozsi_save_pieces(self, board.as_ptr(), board.len(), output.as_mut_ptr(), output.len()) };
+        Ok(reply.done()?.said.first as usize)
+    }
+
+    /// Sets the leaves of a board to those of a sheet that lists pieces, and empties the list: a record at the sheet's position, of round 0. Refused
+    /// as [`Drive::read`].
+    pub fn read_pieces(sheet: &[u8], board: &mut [u16], list: &mut [u64]) -> Result<Drive, Refusal> {
+        let (entries, numbers) = (board.len(), list.len());
+        let reply = unsafe { raw::mandrozsi_read_pieces(sheet.as_ptr(), sheet.len(), board.as_mut_ptr(), entries, list.as_mut_ptr(), numbers) };
         Ok(reply.done()?.drive)
     }
 

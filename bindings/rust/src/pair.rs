@@ -58,6 +58,11 @@ impl Pair {
         Drive::read(sheet, board, list).map(Pair::alike)
     }
 
+    /// As [`Drive::read_pieces`]: both drives are at the sheet's position.
+    pub fn read_pieces(sheet: &[u8], board: &mut [u16], list: &mut [u64]) -> Result<Pair, Refusal> {
+        Drive::read_pieces(sheet, board, list).map(Pair::alike)
+    }
+
     /// Admits a stream. Refused: 1 to 3, 5 to 7; 14 where it would wait; 8, 10 where it is made at once.
     pub fn add(self, side: Side, board: &mut [u16], list: &mut [u64], name: u16, weight: u16) -> Result<Change, Refusal> {
         let ((own, other), entries, numbers) = (self.own(side), board.len(), list.len());
@@ -113,6 +118,14 @@ impl Pair {
     pub fn save(self, side: Side, board: &[u16], output: &mut [u8]) -> Result<usize, Refusal> {
         let (own, other) = self.own(side);
         let reply = unsafe { raw::mandrozsi_pair_save(own, other, board.as_ptr(), board.len(), output.as_mut_ptr(), output.len()) };
+        Ok(reply.done()?.said.first as usize)
+    }
+
+    /// Writes the sheet that lists the board's pieces to the start of the output and nothing beyond it, where both drives are at one position: the
+    /// bytes written. Refused: 1 to 5, 11.
+    pub fn save_pieces(self, side: Side, board: &[u16], output: &mut [u8]) -> Result<usize, Refusal> {
+        let (own, other) = self.own(side);
+        let reply = unsafe { raw::mandrozsi_pair_save_pieces(own, other, board.as_ptr(), board.len(), output.as_mut_ptr(), output.len()) };
         Ok(reply.done()?.said.first as usize)
     }
 }

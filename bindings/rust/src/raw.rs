@@ -30,6 +30,10 @@ extern "C" {
     pub fn mandrozsi_report(drive: Drive, board: *const u16, entries: usize, name: u16) -> Reply;
     pub fn mandrozsi_save(drive: Drive, board: *const u16, entries: usize, output: *mut u8, length: usize) -> Reply;
     pub fn mandrozsi_read(sheet: *const u8, length: usize, board: *mut u16, entries: usize, list: *mut u64, numbers: usize) -> Reply;
+    pub fn mandrozsi_save_pieces(drive: Drive, board: *const u16, entries: usize, output: *mut u8, length: usize) -> Reply;
+    pub fn mandrozsi_read_pieces(sheet: *const u8, length: usize, board: *mut u16, entries: usize, list: *mut u64, numbers: usize) -> Reply;
+    pub fn mandrozsi_to_pieces(sheet: *const u8, bytes: usize, output: *mut u8, length: usize) -> Said;
+    pub fn mandrozsi_to_leaves(sheet: *const u8, bytes: usize, output: *mut u8, length: usize) -> Said;
     pub fn mandrozsi_fetch(list: *mut u64, numbers: usize, ticket: u64) -> Said;
     pub fn mandrozsi_fresh(drive: Drive, board: *mut u16, entries: usize) -> Reply;
     pub fn mandrozsi_pair_add(
@@ -47,6 +51,7 @@ extern "C" {
     pub fn mandrozsi_pair_round(own: Drive, other: Drive, board: *const u16, entries: usize, output: *mut u16, length: usize) -> Reply;
     pub fn mandrozsi_pair_report(own: Drive, other: Drive, board: *const u16, entries: usize, name: u16) -> Reply;
     pub fn mandrozsi_pair_save(own: Drive, other: Drive, board: *const u16, entries: usize, output: *mut u8, length: usize) -> Reply;
+    pub fn mandrozsi_pair_save_pieces(own: Drive, other: Drive, board: *const u16, entries: usize, output: *mut u8, length: usize) -> Reply;
     pub fn mandrozsi_pair_fresh(own: Drive, other: Drive, board: *mut u16, entries: usize) -> Reply;
     pub fn mandrozsi_pair_batch(
         own: Drive,

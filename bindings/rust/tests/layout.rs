@@ -117,6 +117,7 @@ fn limits() {
         ("LARGEST", Drive::LARGEST),
         ("BLOCK_BYTES", Drive::BLOCK_BYTES),
         ("LEAVES_PER_BLOCK", Drive::LEAVES_PER_BLOCK),
+        ("PIECES_PER_BLOCK", Drive::PIECES_PER_BLOCK),
         ("LIST", LIST),
     ] {
         assert!(HEADER.contains(&format!("#define MANDROZSI_{name} {value}\n")), "{name}");
@@ -173,8 +174,9 @@ fn functions() {
     let code = code();
     let header = declared(&code, false);
     let rust = declared(include_str!("../src/raw.rs"), true);
-    assert_eq!(header.len(), 20);
+    assert_eq!(header.len(), 25);
     assert_eq!(header, rust);
     let alone: Vec<_> = header.iter().filter(|(back, ..)| *back == "said").map(|(_, name, _)| *name).collect();
-    assert_eq!(alone, ["mandrozsi_fetch", "mandrozsi_pair_slot_here", "mandrozsi_walk"]);
+    let expected = ["to_pieces", "to_leaves", "fetch", "pair_slot_here", "walk"].map(|name| format!("mandrozsi_{name}"));
+    assert_eq!(alone, expected);
 }

@@ -4,7 +4,7 @@ use mathlib.Core.Path.{_≡_, refl, sym, ap, subst, _∙_}
 use mathlib.Core.Bool.{Bool, true, false, cond, not}
 use mathlib.Core.List.{List, [], _∷_, _++_}
 use mathlib.Core.Logic.{⊎-elim}
-use Prim.Native.Nat.{ℕ, _+_, _*_}
+use Prim.Native.Nat.{ℕ, _+_}
 use native.Mathlib.Omega.{arith}
 use lib.Dec.{eqb, ltb}
 use lib.ListN.{length, drop}
@@ -16,23 +16,24 @@ use Rattle.calls.specs.declared.Refusal.{Refusal}
 use Rattle.calls.specs.declared.Refusal.the-variants.{Capacity, Short, Position, Midround, Damaged, Name, Weight, Taken, Absent, Room, Output, Block}
 use Rattle.calls.specs.declared.Check.{Check}
 use Rattle.calls.specs.declared.Check.the-variants.{Clear, Refused}
-use Rattle.calls.specs.Refusals.{numberOf, firstOf, refuseIf, andThen, zeroOr, among, askedOpen, asked, askedAdd, askedName, openMay, changeMay, slotMay, openCheck, slotCheck, positionCheck, goodCheck, heldCheck, changeCheck, admitCheck, addCheck, removeCheck, roundCheck, reportCheck}
+use Rattle.calls.specs.Refusals.{numbers, numberOf, firstOf, refuseIf, andThen, zeroOr, among, askedOpen, asked, askedAdd, askedName, openMay, changeMay, slotMay, openCheck, slotCheck, positionCheck, goodCheck, heldCheck, changeCheck, admitCheck, addCheck, removeCheck, roundCheck, reportCheck}
 use Rattle.calls.specs.Records.{driveAt}
 use Rattle.calls.specs.Answers.{numberBy, answered, beside}
 use Rattle.calls.specs.Results.{ifClear, roundNames, reportedSpacing}
 use Rattle.calls.proofs.Laws.{by-bool, refusal, Within, covers, first-next, first-within, then-within, if-within, part-within, other-number, change-parts, add-parts, remove-parts, round-answers, report-answers, fresh-answers}
-use Rattle.sheets.specs.Sheet.{blocks, sheet, capacityIn, leavesIn, laid}
-use Rattle.sheets.specs.Results.{saveCheck, askedSheet, blockCheck, startCheck}
-use Rattle.sheets.proofs.Laws.{save-answers}
+use Rattle.sheets.specs.Sheet.{capacityIn}
+use Rattle.sheets.specs.Forms.{Form, sizeOf, savingCheck, askedSheet, blockCheck, startCheck}
+use Rattle.sheets.specs.Results.{savePiecesMay}
+use Rattle.sheets.proofs.Laws.{save-answers, save-pieces-answers}
 use Rattle.waiting.specs.declared.Order.{Order}
 use Rattle.waiting.specs.Layout.{tooShort, lastTicket, full, takenList}
 use Rattle.waiting.proofs.Laws.{fetch-cases}
 use Rattle.orders.specs.declared.Way.{Way}
 use Rattle.orders.specs.declared.Way.the-variants as way
-use Rattle.orders.specs.Checks.{longCheck, lentCheck, boundsCheck, readCheck, orderCheck, mustWait, wayBy, wayOf}
+use Rattle.orders.specs.Checks.{longCheck, lentCheck, boundsCheck, readingCheck, orderCheck, mustWait, wayBy, wayOf}
 use Rattle.orders.specs.Results.{addOrder, removeOrder, carriedAnswer, carriedBoard, changedAnswerBy, boardBy, listBy, servedBy, servedAnswerBy, boardThen, listThen}
 use Rattle.orders.proofs.Laws.{now-start}
-use Rattle.amended.specs.Deeds.{Deed, Opens, Reads, Adds, Removes, Slots, Rounds, Reports, Saves, Fetches, Refreshes, Desk, openChecks, readChecks, firstChecks, wayAt, answers}
+use Rattle.amended.specs.Deeds.{Sheets, Leaves, Pieces, formOf, Deed, Opens, Reads, Adds, Removes, Slots, Rounds, Reports, Saves, Fetches, Refreshes, Desk, openChecks, readChecks, firstChecks, wayAt, answers}
 use Rattle.amended.specs.Refusing as refusing
 use Rattle.amended.specs.Refusing.{RefusedBy, mayAnswer, isDone, zeros, idleLeaves}
 
@@ -58,19 +59,25 @@ block-within : (broken : Bool) → Within (12 ∷ 1 ∷ 2 ∷ 5 ∷ []) (blockCh
 unfolding blockCheck covers zeroOr
 block-within broken = part-within (12 ∷ 1 ∷ 2 ∷ 5 ∷ []) (12 ∷ []) (blockCheck broken) refl (first-within (Block ∷ []) (askedSheet broken))
 
-read-within : (S B : List ℕ) (n : ℕ) → Within (12 ∷ 1 ∷ 2 ∷ 5 ∷ []) (readCheck S B n)
-unfolding readCheck startCheck openCheck goodCheck covers zeroOr
-read-within S B n =
+read-within : (F : Form) (S B : List ℕ) (n : ℕ) → Within (12 ∷ 1 ∷ 2 ∷ 5 ∷ []) (readingCheck F S B n)
+unfolding readingCheck startCheck openCheck goodCheck covers zeroOr
+read-within F S B n =
     let ns : List ℕ = 12 ∷ 1 ∷ 2 ∷ 5 ∷ [] in
     let C = capacityIn S in
-    let sound = goodCheck C (leavesIn C S) in
-    let laying = andThen (blockCheck (not (laid C S))) sound in
+    let sound = goodCheck C (F .leaves C S) in
+    let laying = andThen (blockCheck (not (F .laid C S))) sound in
     then-within ns (startCheck S B) (andThen (longCheck n) laying)
     (then-within ns (blockCheck (ltb (length S) 512)) (openCheck C B) (block-within (ltb (length S) 512))
     (part-within ns (1 ∷ 2 ∷ []) (openCheck C B) refl (first-within openMay (askedOpen C B))))
     (then-within ns (longCheck n) laying (if-within ns (tooShort n) Short Clear refl refl)
-    (then-within ns (blockCheck (not (laid C S))) sound (block-within (not (laid C S)))
-    (part-within ns (5 ∷ []) sound refl (first-within (Damaged ∷ []) (asked (driveAt C 1) (leavesIn C S))))))
+    (then-within ns (blockCheck (not (F .laid C S))) sound (block-within (not (F .laid C S)))
+    (part-within ns (5 ∷ []) sound refl (first-within (Damaged ∷ []) (asked (driveAt C 1) (F .leaves C S))))))
+
+save-within : (form : Sheets) (d : Drive) (B O : List ℕ) → Within (1 ∷ 2 ∷ 3 ∷ 4 ∷ 5 ∷ 11 ∷ []) (savingCheck (formOf form) d B (length O))
+unfolding among covers zeroOr
+save-within Leaves d B O = save-answers d B O
+save-within Pieces d B O =
+    part-within (1 ∷ 2 ∷ 3 ∷ 4 ∷ 5 ∷ 11 ∷ []) (numbers savePiecesMay) (savingCheck (formOf Pieces) d B (length O)) refl (save-pieces-answers d B O)
 
 -- an order that is to wait
 pub order-within : (C : ℕ) (B : List ℕ) (o : Order) → Within (5 ∷ 6 ∷ 7 ∷ []) (orderCheck C B o)
@@ -304,17 +311,17 @@ module _ (s : Desk) where
     values = zeros-say (mayAnswer (Reports x)) (numberOf r) 0 (idleLeaves s) (0 ∷ 0 ∷ 0 ∷ []) m refl refl refl;
   }
 
-  pub save-refused : (O done : List ℕ) (n : ℕ) (k : Check) → Within (mayAnswer (Saves O)) k → eqb (numberBy k) 0 ≡ false
-      → RefusedBy (Saves O) s (answered k (n ∷ [])) d B L (ifClear k done O)
+  pub save-refused : (form : Sheets) (O done : List ℕ) (n : ℕ) (k : Check) → Within (mayAnswer (Saves form O)) k → eqb (numberBy k) 0 ≡ false
+      → RefusedBy (Saves form O) s (answered k (n ∷ [])) d B L (ifClear k done O)
   unfolding zeroOr
-  save-refused O done n Clear m h = clash refl h
-  save-refused O done n (Refused r) m h = record {
+  save-refused form O done n Clear m h = clash refl h
+  save-refused form O done n (Refused r) m h = record {
     number = m;
     record' = refl;
     board = refl;
     list = λ q. refl;
     output = refl;
-    values = zeros-say (mayAnswer (Saves O)) (numberOf r) 0 (idleLeaves s) (0 ∷ []) m refl refl refl;
+    values = zeros-say (mayAnswer (Saves form O)) (numberOf r) 0 (idleLeaves s) (0 ∷ []) m refl refl refl;
   }
 
   pub fresh-refused : (D : List ℕ) (k : Check) → Within (mayAnswer Refreshes) k → eqb (numberBy k) 0 ≡ false
@@ -358,16 +365,16 @@ demand-1-amended (Opens C) s h =
       output = refl;
       values = zeros-say (1 ∷ 2 ∷ []) (answers (Opens C) s .number) 0 (idleLeaves s) (answers (Opens C) s .values) m refl refl (rw e refl);
     }
-demand-1-amended (Reads S) s h =
-    let e = refused (readChecks s S) h .1 in
-    let m = read-within S (s .state .board) (length (s .list)) in
+demand-1-amended (Reads form S) s h =
+    let e = refused (readChecks s form S) h .1 in
+    let m = read-within (formOf form) S (s .state .board) (length (s .list)) in
     record {
       number = m;
       record' = rw e refl;
       board = rw e refl;
       list = λ q. rw e refl;
       output = refl;
-      values = zeros-say (12 ∷ 1 ∷ 2 ∷ 5 ∷ []) (answers (Reads S) s .number) 0 (idleLeaves s) (answers (Reads S) s .values) m refl refl (rw e refl);
+      values = zeros-say (12 ∷ 1 ∷ 2 ∷ 5 ∷ []) (answers (Reads form S) s .number) 0 (idleLeaves s) (answers (Reads form S) s .values) m refl refl (rw e refl);
     }
 demand-1-amended (Adds x w) s h = add-refused s x w (wayAt (addOrder x w) s) (add-taken s x w) h
 demand-1-amended (Removes x) s h = remove-refused s x (wayAt (removeOrder x) s) (remove-taken s x) h
@@ -381,10 +388,11 @@ demand-1-amended (Reports x) s h =
     let d = s .state .drive in
     let B = s .state .board in
     report-refused s x (weight (d .capacity) B x) (number (d .capacity) B x) (reportedSpacing d B x) (reportCheck d B x) (report-answers d B x) h
-demand-1-amended (Saves O) s h =
+demand-1-amended (Saves form O) s h =
     let d = s .state .drive in
     let B = s .state .board in
-    save-refused s O (sheet (d .capacity) B ++ drop (512 * blocks (d .capacity)) O) (512 * blocks (d .capacity)) (saveCheck d B (length O)) (save-answers d B O) h
+    let F = formOf form in
+    save-refused s form O (F .sheet (d .capacity) (d .position) B ++ drop (sizeOf F d B) O) (sizeOf F d B) (savingCheck F d B (length O)) (save-within form d B O) h
 demand-1-amended (Fetches t) s h = fetch-refused t s h
 demand-1-amended Refreshes s h =
     let d = s .state .drive in

@@ -3,7 +3,7 @@
 use mathlib.Core.Path.{_≡_, refl, sym, ap, _∙_}
 use mathlib.Core.Bool.{true, false, cond, not}
 use mathlib.Core.List.{List, [], _∷_}
-use Prim.Native.Nat.{ℕ, _*_}
+use Prim.Native.Nat.{ℕ}
 use native.Mathlib.Omega.{arith}
 use lib.Dec.{eqb}
 use lib.ListN.{length}
@@ -15,9 +15,8 @@ use Rattle.calls.specs.declared.Check.the-variants.{Clear, Refused}
 use Rattle.calls.specs.Refusals.{Asked, numberOf, applies, firstOf, refuseIf, zeroOr, askedOutput}
 use Rattle.calls.specs.Answers.{Answer, numberBy}
 use Rattle.calls.proofs.Laws.{by-bool, Within, covers, if-within, part-within, other-number, number-tells, ascending, first-lowest}
-use Rattle.sheets.specs.Sheet.{blocks}
-use Rattle.sheets.specs.Results.{saveMay, saveCheck}
-use Rattle.sheets.proofs.Laws.{save-ascending}
+use Rattle.sheets.specs.Forms.{sizeOf, savingCheck}
+use Rattle.sheets.proofs.Laws.{save-ascending, save-pieces-ascending}
 use Rattle.demands.specs.Histories.{Add, Remove, Round, Report, Fresh, State}
 use Rattle.demands.specs.Holdings.{Stream}
 use Rattle.demands.proofs.Laws.{Sound, never-damaged}
@@ -28,7 +27,7 @@ use Rattle.orders.specs.declared.Way.the-variants as way
 use Rattle.orders.specs.Checks.{orderCheck, mustWait, wayOf}
 use Rattle.orders.specs.Results.{addOrder, removeOrder, takenAnswer, changedAnswerBy}
 use Rattle.orders.proofs.Laws.{now-start}
-use Rattle.amended.specs.Deeds.{Deed, Opens, Reads, Adds, Removes, Slots, Rounds, Reports, Saves, Fetches, Refreshes, Desk, firstChecks, wayAt, answers}
+use Rattle.amended.specs.Deeds.{Sheets, Leaves, Pieces, formOf, Deed, Opens, Reads, Adds, Removes, Slots, Rounds, Reports, Saves, Fetches, Refreshes, Desk, firstChecks, wayAt, answers}
 use Rattle.amended.specs.Refusing.{ofBoard}
 use Rattle.amended.proofs.Carrying.{add-says, remove-says}
 use Rattle.amended.proofs.Sounding.{Standing}
@@ -51,12 +50,16 @@ fine-within C B o fine =
     rw fine (if-within ns (eqb (o .name) 0) Name (refuseIf weightless Weight Clear) refl (if-within ns weightless Weight Clear refl refl))
 
 -- nor is save
-pub save-not : (k : Check) (q : Asked) → firstOf saveMay q ≡ k → not (good (q .capacity) (q .board)) ≡ false → numberBy k ≡ 5 → ⊥
+ascends : (form : Sheets) → ascending 0 (formOf form .may) ≡ true
+ascends Leaves = save-ascending
+ascends Pieces = save-pieces-ascending
+
+pub save-not : (form : Sheets) (k : Check) (q : Asked) → firstOf (formOf form .may) q ≡ k → not (good (q .capacity) (q .board)) ≡ false → numberBy k ≡ 5 → ⊥
 unfolding applies
-save-not Clear q e fine h = omega arith
-save-not (Refused r) q e fine h =
+save-not form Clear q e fine h = omega arith
+save-not form (Refused r) q e fine h =
     let d : r ≡ Damaged = number-tells r Damaged h in
-    let a = first-lowest 0 saveMay q r save-ascending e .0 in
+    let a = first-lowest 0 (formOf form .may) q r (ascends form) e .0 in
     clash (rw d at a) fine
 
 -- nor is a change, in whatever way it is taken
@@ -93,16 +96,17 @@ module _ (hs : List Stream) (s : Desk) (is : Standing hs s) where
       }
 
   pub undamaged : (a : Deed) → ofBoard a ≡ true → answers a s .number ≡ 5 → ⊥
-  unfolding saveCheck zeroOr
+  unfolding savingCheck zeroOr
   undamaged (Opens C) o h = not-five (1 ∷ 2 ∷ []) (answers (Opens C) s .number) (lent-within C (s .state .board) (length (s .list))) refl h
-  undamaged (Reads S) o h = clash o refl
+  undamaged (Reads form S) o h = clash o refl
   undamaged (Adds x w) o h = add-not (s .state) hs (is .sound) (s .list) x w (wayAt (addOrder x w) s) (taken (addOrder x w)) h
   undamaged (Removes x) o h = remove-not (s .state) hs (is .sound) (s .list) x (wayAt (removeOrder x) s) (taken (removeOrder x)) h
   undamaged Slots o h = let z = slot-served hs s is in omega arith
   undamaged (Rounds O) o h = never-damaged (s .state) hs (is .sound) (Round O) h
   undamaged (Reports x) o h = never-damaged (s .state) hs (is .sound) (Report x) h
-  undamaged (Saves O) o h =
-      let q = askedOutput (s .state .drive) (s .state .board) (length O) (512 * blocks (s .state .drive .capacity)) in
-      save-not (firstOf saveMay q) q refl (ap not fine) h
+  undamaged (Saves form O) o h =
+      let F = formOf form in
+      let q = askedOutput (s .state .drive) (s .state .board) (length O) (sizeOf F (s .state .drive) (s .state .board)) in
+      save-not form (firstOf (F .may) q) q refl (ap not fine) h
   undamaged (Fetches t) o h = clash o refl
   undamaged Refreshes o h = never-damaged (s .state) hs (is .sound) Fresh h

@@ -56,7 +56,7 @@ if-in-order false d B L is = is
 pub in-order-next : (a : Deed) (s : Desk) → InOrder (s .list) → InOrder (listAfter a s)
 unfolding listThen
 in-order-next (Opens C) s is = check-in-order (openChecks s C) (emptied (s .list)) (s .list) (empty-in-order (s .list) (is .long)) is
-in-order-next (Reads S) s is = check-in-order (readChecks s S) (emptied (s .list)) (s .list) (empty-in-order (s .list) (is .long)) is
+in-order-next (Reads form S) s is = check-in-order (readChecks s form S) (emptied (s .list)) (s .list) (empty-in-order (s .list) (is .long)) is
 in-order-next (Adds x w) s is = order-in-order (s .list) (addOrder x w) (wayAt (addOrder x w) s) is
 in-order-next (Removes x) s is = order-in-order (s .list) (removeOrder x) (wayAt (removeOrder x) s) is
 in-order-next Slots s is =
@@ -64,7 +64,7 @@ in-order-next Slots s is =
     (if-in-order (eqb (s .state .drive .position) 1) (s .state .drive) (s .state .board) (s .list) is) is
 in-order-next (Rounds O) s is = is
 in-order-next (Reports x) s is = is
-in-order-next (Saves O) s is = is
+in-order-next (Saves form O) s is = is
 in-order-next Refreshes s is = is
 in-order-next (Fetches t) s is = fetch-in-order (s .list) is t
 
@@ -121,7 +121,7 @@ if-last false d B L l = refl
 pub count-next : (a : Deed) (s : Desk) (ts : List ℕ) → 259 ≤ length (s .list) → CountUp (lastTicket (listAfter a s)) ts → CountUp (lastTicket (s .list)) (ticketTold a s ++ ts)
 unfolding listThen
 count-next (Opens C) s ts l c = check-count (openChecks s C) (emptied (s .list)) (s .list) ts (empty-last (s .list) l) c
-count-next (Reads S) s ts l c = check-count (readChecks s S) (emptied (s .list)) (s .list) ts (empty-last (s .list) l) c
+count-next (Reads form S) s ts l c = check-count (readChecks s form S) (emptied (s .list)) (s .list) ts (empty-last (s .list) l) c
 count-next (Adds x w) s ts l c =
     let k = wayAt (addOrder x w) s in
     way-count (answers (Adds x w) s) (s .list) (addOrder x w) k l (add-other s x w k (add-taken s x w)) (λ e. rw e refl) ts c
@@ -133,7 +133,7 @@ count-next Slots s ts l c =
     (if-last (eqb (s .state .drive .position) 1) (s .state .drive) (s .state .board) (s .list) l) c
 count-next (Rounds O) s ts l c = c
 count-next (Reports x) s ts l c = c
-count-next (Saves O) s ts l c = c
+count-next (Saves form O) s ts l c = c
 count-next Refreshes s ts l c = c
 count-next (Fetches t) s ts l c = rw (fetch-last (s .list) l t) at c
 
@@ -231,13 +231,13 @@ module _ (t : ℕ) (o : Order) (ahead : List Order) where
   pub follows-next : (ψ : Fate) (a : Deed) (s : Desk) → Follows t o ahead ψ s → Follows t o ahead (fateNext t o ahead ψ a s) (leaves a s)
   unfolding listThen
   follows-next ψ (Opens C) s f = restart-follows ψ s (leaves (Opens C) s) (openChecks s C) refl f
-  follows-next ψ (Reads S) s f = restart-follows ψ s (leaves (Reads S) s) (readChecks s S) refl f
+  follows-next ψ (Reads form S) s f = restart-follows ψ s (leaves (Reads form S) s) (readChecks s form S) refl f
   follows-next ψ (Adds x w) s f = order-follows ψ s (leaves (Adds x w) s) (addOrder x w) (wayAt (addOrder x w) s) refl f
   follows-next ψ (Removes x) s f = order-follows ψ s (leaves (Removes x) s) (removeOrder x) (wayAt (removeOrder x) s) refl f
   follows-next ψ Slots s f = slot-follows ψ s (leaves Slots s) (firstChecks s) (eqb (s .state .drive .position) 1) refl f
   follows-next ψ (Rounds O) s f = still ψ s (leaves (Rounds O) s) refl f
   follows-next ψ (Reports x) s f = still ψ s (leaves (Reports x) s) refl f
-  follows-next ψ (Saves O) s f = still ψ s (leaves (Saves O) s) refl f
+  follows-next ψ (Saves form O) s f = still ψ s (leaves (Saves form O) s) refl f
   follows-next ψ Refreshes s f = still ψ s (leaves Refreshes s) refl f
   follows-next ψ (Fetches u) s f = fetch-follows ψ s u f
 

@@ -71,13 +71,13 @@ is-clear (Refused r) e = let z : _≡_ {A = ℕ} 0 1 = cc in absurd (omega arith
 pub projected-one : (a : Deed) (s : Desk) → restarts a s ≡ false → leaves a s .state ≡ after (s .state) (standsFor a s)
 unfolding after
 projected-one (Opens C) s e = rw (not-clear (openChecks s C) e .1) refl
-projected-one (Reads S) s e = rw (not-clear (readChecks s S) e .1) refl
+projected-one (Reads form S) s e = rw (not-clear (readChecks s form S) e .1) refl
 projected-one (Adds x w) s e = order-same (s .state) (addOrder x w) (wayAt (addOrder x w) s)
 projected-one (Removes x) s e = order-same (s .state) (removeOrder x) (wayAt (removeOrder x) s)
 projected-one Slots s e = slot-same s (firstChecks s) refl
 projected-one (Rounds O) s e = refl
 projected-one (Reports x) s e = refl
-projected-one (Saves O) s e = refl
+projected-one (Saves form O) s e = refl
 projected-one (Fetches t) s e = refl
 projected-one Refreshes s e = refl
 
@@ -108,13 +108,13 @@ slot-names s Clear e =
 pub names-one : (a : Deed) (s : Desk) → restarts a s ≡ false → nameServed a s ≡ names (log (s .state) (standsFor a s))
 unfolding names log
 names-one (Opens C) s e = refl
-names-one (Reads S) s e = refl
+names-one (Reads form S) s e = refl
 names-one (Adds x w) s e = order-names (s .state) (addOrder x w) (wayAt (addOrder x w) s)
 names-one (Removes x) s e = order-names (s .state) (removeOrder x) (wayAt (removeOrder x) s)
 names-one Slots s e = slot-names s (firstChecks s) refl
 names-one (Rounds O) s e = refl
 names-one (Reports x) s e = refl
-names-one (Saves O) s e = refl
+names-one (Saves form O) s e = refl
 names-one (Fetches t) s e = refl
 names-one Refreshes s e = refl
 

@@ -14,15 +14,15 @@ use Rattle.calls.specs.Promises.{Rounds, Reports, Refreshes}
 use Rattle.sheets.specs.declared.Saved.{Saved}
 use Rattle.sheets.specs.declared.Loaded.{Loaded}
 use Rattle.sheets.specs.Results.{savingAnswer, loadingAnswer}
-use Rattle.sheets.specs.Promises.{Saves}
+use Rattle.sheets.specs.Promises.{Saves, SavesPieces}
 use Rattle.waiting.specs.declared.Fetching.{Fetching}
 use Rattle.waiting.specs.Promises.{Fetches}
 use Rattle.orders.specs.declared.Ordered.{Ordered}
 use Rattle.orders.specs.Answers.{orderingAnswer, fetchingAnswer}
 use Rattle.orders.specs.Results.{addOrder, removeOrder}
-use Rattle.orders.specs.Promises.{Opens, Loads, Orders, Serves}
+use Rattle.orders.specs.Promises.{Opens, Loads, LoadsPieces, Orders, Serves}
 use Rattle.amended.specs.Deeds as deeds
-use Rattle.amended.specs.Deeds.{Deed, Desk, desk, answers, returned, boardAfter, listAfter}
+use Rattle.amended.specs.Deeds.{Leaves, Pieces, Deed, Desk, desk, answers, returned, boardAfter, listAfter}
 use Rattle.amended.specs.Refusing.{writes}
 
 -- what is said, the record returned, the board and the list afterwards
@@ -35,8 +35,12 @@ module _ (d : Drive) (B L : List ℕ) where
   open-kept C p = (p .1, (ap (λ (r : Opened). r .drive) (p .0), p .2, p .3))
 
   pub read-kept : (S : List ℕ) {r : Loaded} {E F : List ℕ} → Loads S B L r E F
-      → (loadingAnswer (r .answer) ≡ answers (deeds.Reads S) (desk d B L)) × Kept (deeds.Reads S) (desk d B L) (r .drive) E F
+      → (loadingAnswer (r .answer) ≡ answers (deeds.Reads Leaves S) (desk d B L)) × Kept (deeds.Reads Leaves S) (desk d B L) (r .drive) E F
   read-kept S p = (p .1, (ap (λ (r : Loaded). r .drive) (p .0), p .2, p .3))
+
+  pub read-pieces-kept : (S : List ℕ) {r : Loaded} {E F : List ℕ} → LoadsPieces S B L r E F
+      → (loadingAnswer (r .answer) ≡ answers (deeds.Reads Pieces S) (desk d B L)) × Kept (deeds.Reads Pieces S) (desk d B L) (r .drive) E F
+  read-pieces-kept S p = (p .1, (ap (λ (r : Loaded). r .drive) (p .0), p .2, p .3))
 
   pub add-kept : (x w : ℕ) {r : Ordered} {E F : List ℕ} → Orders d B L (addOrder x w) r E F
       → (orderingAnswer (r .answer) ≡ answers (deeds.Adds x w) (desk d B L)) × Kept (deeds.Adds x w) (desk d B L) (r .drive) E F
@@ -59,8 +63,14 @@ module _ (d : Drive) (B L : List ℕ) where
   report-kept x p = (p .1, ap (λ (r : Reported). r .drive) (p .0))
 
   pub save-kept : (O : List ℕ) {r : Saved} {E : List ℕ} → Saves d B O r E
-      → (savingAnswer (r .answer) ≡ answers (deeds.Saves O) (desk d B L)) × (r .drive ≡ returned (deeds.Saves O) (desk d B L)) × (E ≡ writes (deeds.Saves O) (desk d B L))
+      → (savingAnswer (r .answer) ≡ answers (deeds.Saves Leaves O) (desk d B L)) × (r .drive ≡ returned (deeds.Saves Leaves O) (desk d B L))
+      × (E ≡ writes (deeds.Saves Leaves O) (desk d B L))
   save-kept O p = (p .1, ap (λ (r : Saved). r .drive) (p .0), p .2)
+
+  pub save-pieces-kept : (O : List ℕ) {r : Saved} {E : List ℕ} → SavesPieces d B O r E
+      → (savingAnswer (r .answer) ≡ answers (deeds.Saves Pieces O) (desk d B L)) × (r .drive ≡ returned (deeds.Saves Pieces O) (desk d B L))
+      × (E ≡ writes (deeds.Saves Pieces O) (desk d B L))
+  save-pieces-kept O p = (p .1, ap (λ (r : Saved). r .drive) (p .0), p .2)
 
   pub fetch-kept : (t : ℕ) {r : Fetching} {F : List ℕ} → Fetches L t r F
       → (fetchingAnswer r ≡ answers (deeds.Fetches t) (desk d B L)) × (F ≡ listAfter (deeds.Fetches t) (desk d B L))

@@ -49,13 +49,13 @@ look-held hs u x (Refused r) e = refl
 alone-held : (hs : List Stream) (u : State) (a : Deed) (s : Pair) → heldFrom hs (log u (alone a s)) ≡ hs
 unfolding heldFrom log
 alone-held hs u (Opens C) s = refl
-alone-held hs u (Reads S) s = refl
+alone-held hs u (Reads form S) s = refl
 alone-held hs u (Adds x w) s = refl
 alone-held hs u (Removes x) s = refl
 alone-held hs u Slots s = look-held hs u Slot (firstChecks s) refl
 alone-held hs u (Rounds O) s = look-held hs u (Round O) (lookChecks s) refl
 alone-held hs u (Reports x) s = look-held hs u (Report x) (lookChecks s) refl
-alone-held hs u (Saves O) s = refl
+alone-held hs u (Saves form O) s = refl
 alone-held hs u (Fetches t) s = refl
 alone-held hs u Refreshes s = refl
 
@@ -140,13 +140,13 @@ held-turned hs s (Other a ∷ rest) = held-turned (heldOwn hs a (exchanged s)) (
 pub list-length : (a : Deed) (s : Pair) → length (listAfter a s) ≡ length (s .list)
 unfolding listThen
 list-length (Opens C) s = sounding.list-length (Opens C) (seen s)
-list-length (Reads S) s = sounding.list-length (Reads S) (seen s)
+list-length (Reads form S) s = sounding.list-length (Reads form S) (seen s)
 list-length (Adds x w) s = by-way (s .list) (addOrder x w) (wayAt (addOrder x w) s)
 list-length (Removes x) s = by-way (s .list) (removeOrder x) (wayAt (removeOrder x) s)
 list-length Slots s = by-check (firstChecks s) (listThen (s .own) (s .other) (s .board) (s .list)) (s .list) (if-length (bothStart (s .own) (s .other)) (s .own) (s .board) (s .list))
 list-length (Rounds O) s = refl
 list-length (Reports x) s = refl
-list-length (Saves O) s = refl
+list-length (Saves form O) s = refl
 list-length Refreshes s = refl
 list-length (Fetches t) s = sounding.list-length (Fetches t) (seen s)
 
@@ -165,25 +165,25 @@ standing-turned hs s is = record { own = is .other; other = is .own; same = sym 
 -- an open or a read that is done gives both drives one record, and leaves what a history of one drive may begin with
 pub both-given : (a : Deed) (s : Pair) → one.restarts a (seen s) ≡ true → leavesOwn a s .other ≡ leavesOwn a s .own
 both-given (Opens C) s e = rw (is-clear (openChecks (seen s) C) e) refl
-both-given (Reads S) s e = rw (is-clear (readChecks (seen s) S) e) refl
+both-given (Reads form S) s e = rw (is-clear (readChecks (seen s) form S) e) refl
 both-given (Adds x w) s e = let z : _≡_ {A = ℕ} 0 1 = cc in absurd (omega arith)
 both-given (Removes x) s e = let z : _≡_ {A = ℕ} 0 1 = cc in absurd (omega arith)
 both-given Slots s e = let z : _≡_ {A = ℕ} 0 1 = cc in absurd (omega arith)
 both-given (Rounds O) s e = let z : _≡_ {A = ℕ} 0 1 = cc in absurd (omega arith)
 both-given (Reports x) s e = let z : _≡_ {A = ℕ} 0 1 = cc in absurd (omega arith)
-both-given (Saves O) s e = let z : _≡_ {A = ℕ} 0 1 = cc in absurd (omega arith)
+both-given (Saves form O) s e = let z : _≡_ {A = ℕ} 0 1 = cc in absurd (omega arith)
 both-given (Fetches t) s e = let z : _≡_ {A = ℕ} 0 1 = cc in absurd (omega arith)
 both-given Refreshes s e = let z : _≡_ {A = ℕ} 0 1 = cc in absurd (omega arith)
 
 restart-seen : (a : Deed) (s : Pair) → 259 ≤ length (s .list) → one.restarts a (seen s) ≡ true → holding.Ready (seen (leavesOwn a s))
 restart-seen (Opens C) s l e = restart-ready (Opens C) (seen s) l e
-restart-seen (Reads S) s l e = restart-ready (Reads S) (seen s) l e
+restart-seen (Reads form S) s l e = restart-ready (Reads form S) (seen s) l e
 restart-seen (Adds x w) s l e = let z : _≡_ {A = ℕ} 0 1 = cc in absurd (omega arith)
 restart-seen (Removes x) s l e = let z : _≡_ {A = ℕ} 0 1 = cc in absurd (omega arith)
 restart-seen Slots s l e = let z : _≡_ {A = ℕ} 0 1 = cc in absurd (omega arith)
 restart-seen (Rounds O) s l e = let z : _≡_ {A = ℕ} 0 1 = cc in absurd (omega arith)
 restart-seen (Reports x) s l e = let z : _≡_ {A = ℕ} 0 1 = cc in absurd (omega arith)
-restart-seen (Saves O) s l e = let z : _≡_ {A = ℕ} 0 1 = cc in absurd (omega arith)
+restart-seen (Saves form O) s l e = let z : _≡_ {A = ℕ} 0 1 = cc in absurd (omega arith)
 restart-seen (Fetches t) s l e = let z : _≡_ {A = ℕ} 0 1 = cc in absurd (omega arith)
 restart-seen Refreshes s l e = let z : _≡_ {A = ℕ} 0 1 = cc in absurd (omega arith)
 

@@ -17,10 +17,11 @@ use Rattle.calls.specs.declared.Check.the-variants.{Clear, Refused}
 use Rattle.calls.specs.Records.{driveAt}
 use Rattle.calls.specs.Results.{ifClear, idleBoard}
 use Rattle.calls.specs.Refusals.{slotCheck}
-use Rattle.calls.proofs.Laws.{by-bool, Sized, open-clear}
+use Rattle.calls.proofs.Laws.{by-bool, Sized, open-clear, open-sized, slot-parts}
 use Rattle.sheets.specs.Sheet.{capacityIn, leavesIn}
 use Rattle.sheets.specs.Results as sheets
-use Rattle.sheets.proofs.Laws.{read-sized, read-good}
+use Rattle.sheets.specs.Entries.{positionIn, spelled}
+use Rattle.sheets.proofs.Laws.{read-sized, read-good, read-pieces-sized, read-pieces-good, read-pieces-position}
 use Rattle.demands.specs.Histories.{State, after, log}
 use Rattle.demands.specs.Holdings.{Stream, heldFrom, heldOf, total}
 use Rattle.demands.proofs.Laws.{stateAt, Sound, opened, reached, slot-clear, clear-valid}
@@ -31,8 +32,8 @@ use Rattle.waiting.proofs.Laws.{take-length, run-length, fetch-length, empty-le
 use Rattle.orders.specs.declared.Way.{Way}
 use Rattle.orders.specs.declared.Way.the-variants as way
 use Rattle.orders.specs.Results.{addOrder, removeOrder, doing, saying, listBy, ranList, listIf, listThen}
-use Rattle.orders.proofs.Laws.{lent-open, read-accepts}
-use Rattle.amended.specs.Deeds.{Deed, Opens, Reads, Adds, Removes, Slots, Rounds, Reports, Saves, Fetches, Refreshes, Desk, openChecks, readChecks, firstChecks, wayAt, leaves, leavesAll, listAfter, restarts, standsFor}
+use Rattle.orders.proofs.Laws.{lent-open, read-accepts, read-pieces-accepts}
+use Rattle.amended.specs.Deeds.{Sheets, Leaves, Pieces, Deed, Opens, Reads, Adds, Removes, Slots, Rounds, Reports, Saves, Fetches, Refreshes, Desk, openChecks, readChecks, firstChecks, wayAt, leaves, leavesAll, listAfter, restarts, standsFor}
 use Rattle.amended.specs.Holding.{onLeaves, onBoard, heldNext, heldThrough, Ready}
 use Rattle.amended.proofs.Projection.{is-clear, projected-one}
 use Rattle.amended.proofs.Projecting as projecting
@@ -92,13 +93,13 @@ if-length false d B L = refl
 pub list-length : (a : Deed) (s : Desk) → length (listAfter a s) ≡ length (s .list)
 unfolding listThen
 list-length (Opens C) s = by-check (openChecks s C) (emptied (s .list)) (s .list) (empty-length (s .list))
-list-length (Reads S) s = by-check (readChecks s S) (emptied (s .list)) (s .list) (empty-length (s .list))
+list-length (Reads form S) s = by-check (readChecks s form S) (emptied (s .list)) (s .list) (empty-length (s .list))
 list-length (Adds x w) s = by-way (s .list) (addOrder x w) (wayAt (addOrder x w) s)
 list-length (Removes x) s = by-way (s .list) (removeOrder x) (wayAt (removeOrder x) s)
 list-length Slots s = by-check (firstChecks s) (listThen (s .state .drive) (s .state .board) (s .list)) (s .list) (if-length (eqb (s .state .drive .position) 1) (s .state .drive) (s .state .board) (s .list))
 list-length (Rounds O) s = refl
 list-length (Reports x) s = refl
-list-length (Saves O) s = refl
+list-length (Saves form O) s = refl
 list-length Refreshes s = refl
 list-length (Fetches t) s = fetch-length (s .list) t
 
@@ -117,25 +118,34 @@ opened-ready s C l e =
       long = let n = list-length (Opens C) s in omega arith;
     }
 
-read-ready : (s : Desk) (S : List ℕ) → 259 ≤ length (s .list) → readChecks s S ≡ Clear → Ready (leaves (Reads S) s)
-read-ready s S l e =
+read-ready : (s : Desk) (form : Sheets) (S : List ℕ) → 259 ≤ length (s .list) → readChecks s form S ≡ Clear → Ready (leaves (Reads form S) s)
+read-ready s Leaves S l e =
     let a = read-accepts S (s .state .board) (s .list) e .1 in
     record {
       clear = rw e (slot-first (capacityIn S) (leavesIn (capacityIn S) S ++ drop (capacityIn S) (s .state .board)) (read-sized S (s .state .board) a));
       fine = rw e (read-good S (s .state .board) a);
-      long = let n = list-length (Reads S) s in omega arith;
+      long = let n = list-length (Reads Leaves S) s in omega arith;
+    }
+read-ready s Pieces S l e =
+    let a = read-pieces-accepts S (s .state .board) (s .list) e .1 in
+    let C = capacityIn S in
+    let B = spelled C S ++ drop C (s .state .board) in
+    record {
+      clear = rw e (slot-parts (driveAt C (positionIn S)) B ∙ rw (open-sized C B (read-pieces-sized S (s .state .board) a)) (read-pieces-position S (s .state .board) a));
+      fine = rw e (read-pieces-good S (s .state .board) a);
+      long = let n = list-length (Reads Pieces S) s in omega arith;
     }
 
 pub restart-ready : (a : Deed) (s : Desk) → 259 ≤ length (s .list) → restarts a s ≡ true → Ready (leaves a s)
 restart-ready (Opens C) s l e = opened-ready s C l (is-clear (openChecks s C) e)
-restart-ready (Reads S) s l e = read-ready s S l (is-clear (readChecks s S) e)
+restart-ready (Reads form S) s l e = read-ready s form S l (is-clear (readChecks s form S) e)
 restart-ready (Adds x w) s l e = let z : _≡_ {A = ℕ} 0 1 = cc in absurd (omega arith)
 restart-ready (Removes x) s l e = let z : _≡_ {A = ℕ} 0 1 = cc in absurd (omega arith)
 restart-ready Slots s l e = let z : _≡_ {A = ℕ} 0 1 = cc in absurd (omega arith)
 restart-ready (Rounds O) s l e = let z : _≡_ {A = ℕ} 0 1 = cc in absurd (omega arith)
 restart-ready (Reports x) s l e = let z : _≡_ {A = ℕ} 0 1 = cc in absurd (omega arith)
 restart-ready Refreshes s l e = let z : _≡_ {A = ℕ} 0 1 = cc in absurd (omega arith)
-restart-ready (Saves O) s l e = let z : _≡_ {A = ℕ} 0 1 = cc in absurd (omega arith)
+restart-ready (Saves form O) s l e = let z : _≡_ {A = ℕ} 0 1 = cc in absurd (omega arith)
 restart-ready (Fetches t) s l e = let z : _≡_ {A = ℕ} 0 1 = cc in absurd (omega arith)
 
 -- ---- any calls

@@ -4,8 +4,9 @@
 use mathlib.Core.Path.{_≡_, refl, ap}
 use mathlib.Core.Bool.{true, false, not}
 use mathlib.Core.List.{List, [], _∷_, _++_}
-use Prim.Native.Nat.{ℕ, _*_}
+use Prim.Native.Nat.{ℕ}
 use native.Mathlib.Omega.{arith}
+use lib.Dec.{eqb}
 use lib.ListN.{length, drop}
 use Rattle.pieces.specs.Board.{weight, number}
 use Rattle.pieces.specs.Fresh.{fresh}
@@ -13,8 +14,8 @@ use Rattle.calls.specs.Refusals.{zeroOr, among, firstOf, askedOutput}
 use Rattle.calls.specs.Answers.{numberBy}
 use Rattle.calls.specs.Results.{roundNames, reportedSpacing}
 use Rattle.calls.proofs.Laws.{by-bool, Within, covers, part-within}
-use Rattle.sheets.specs.Sheet.{blocks, sheet}
-use Rattle.sheets.specs.Results.{saveMay, saveCheck}
+use Rattle.sheets.specs.Forms.{sizeOf, savingCheck}
+use Rattle.sheets.specs.Results.{leafForm, pieceForm}
 use Rattle.demands.specs.Histories.{Round, Report, Fresh}
 use Rattle.demands.specs.Holdings.{Stream}
 use Rattle.demands.proofs.Laws.{never-damaged}
@@ -22,12 +23,12 @@ use Rattle.waiting.specs.declared.Order.{Order}
 use Rattle.waiting.specs.Layout.{tooShort}
 use Rattle.orders.specs.Checks.{orderCheck, waitsIf}
 use Rattle.orders.specs.Results.{addOrder, removeOrder}
-use Rattle.drives.specs.Checks.{bothStart, wayOf, startCheck, pairRoundCheck, pairReportCheck, pairSaveCheck, pairFreshCheck}
+use Rattle.drives.specs.Checks.{bothStart, wayOf, startCheck, pairRoundCheck, pairReportCheck, pairSaveCheck, levelCheck, pairPiecesCheck, pairFreshCheck}
 use Rattle.drives.specs.Results.{boardThen, listThen}
-use Rattle.drives.proofs.Laws.{pair-within, now-both, slot-answers, round-answers, report-answers, save-answers, fresh-answers}
-use Rattle.amended.specs.Deeds.{Deed, Opens, Reads, Adds, Removes, Slots, Rounds, Reports, Saves, Fetches, Refreshes}
+use Rattle.drives.proofs.Laws.{pair-within, now-both, slot-answers, round-answers, report-answers, save-answers, save-pieces-answers, fresh-answers}
+use Rattle.amended.specs.Deeds.{Sheets, Leaves, Pieces, formOf, Deed, Opens, Reads, Adds, Removes, Slots, Rounds, Reports, Saves, Fetches, Refreshes}
 use Rattle.amended.specs.Refusing.{ofBoard}
-use Rattle.amended.specs.Turns.{Pair, seen, shown, firstChecks, freshChecks, wayAt, answersOwn}
+use Rattle.amended.specs.Turns.{Pair, seen, shown, firstChecks, saveChecks, freshChecks, wayAt, answersOwn}
 use Rattle.amended.specs.Sharing.{isDone, Refused}
 use Rattle.amended.proofs.Answering.{clash, TakenBy, firsts, removeFirsts, lent-within, order-within, remove-order-within, way-within, add-refused, remove-refused, slot-refused, round-refused, report-refused, save-refused, fresh-refused, demand-1-amended}
 use Rattle.amended.proofs.Damaging.{fines, not-five, fine-within, save-not, add-not, remove-not}
@@ -63,11 +64,16 @@ module _ (s : Pair) where
 
 -- ---- demand 1
 
+save-within : (form : Sheets) (s : Pair) (O : List ℕ) → Within (1 ∷ 2 ∷ 3 ∷ 4 ∷ 5 ∷ 11 ∷ []) (saveChecks form s (length O))
+unfolding among
+save-within Leaves s O = save-answers (s .own) (s .other) (s .board) O
+save-within Pieces s O = save-pieces-answers (s .own) (s .other) (s .board) O
+
 -- A call that is not done answers a number of its list, and changes nothing but for what 10 and 13 say and a change's 13 puts on the list.
 pub demand-1-two : (a : Deed) (s : Pair) → isDone a s ≡ false → Refused a s
 unfolding among
 demand-1-two (Opens C) s h = demand-1-amended (Opens C) (seen s) h
-demand-1-two (Reads S) s h = demand-1-amended (Reads S) (seen s) h
+demand-1-two (Reads form S) s h = demand-1-amended (Reads form S) (seen s) h
 demand-1-two (Adds x w) s h = add-refused (seen s) x w (wayAt (addOrder x w) s) (add-taken s x w) h
 demand-1-two (Removes x) s h = remove-refused (seen s) x (wayAt (removeOrder x) s) (remove-taken s x) h
 demand-1-two Slots s h =
@@ -80,10 +86,10 @@ demand-1-two (Reports x) s h =
     let C = s .own .capacity in
     report-refused (seen s) x (weight C (s .board) x) (number C (s .board) x) (reportedSpacing (s .own) (s .board) x) (pairReportCheck (s .own) (s .other) (s .board) x)
     (report-answers (s .own) (s .other) (s .board) x) h
-demand-1-two (Saves O) s h =
-    let C = s .own .capacity in
-    save-refused (seen s) O (sheet C (s .board) ++ drop (512 * blocks C) O) (512 * blocks C) (pairSaveCheck (s .own) (s .other) (s .board) (length O))
-    (save-answers (s .own) (s .other) (s .board) O) h
+demand-1-two (Saves form O) s h =
+    let F = formOf form in
+    save-refused (seen s) form O (F .sheet (s .own .capacity) (s .own .position) (s .board) ++ drop (sizeOf F (s .own) (s .board)) O) (sizeOf F (s .own) (s .board)) (saveChecks form s (length O))
+    (save-within form s O) h
 demand-1-two (Fetches t) s h = demand-1-amended (Fetches t) (seen s) h
 demand-1-two Refreshes s h = fresh-refused (seen s) (fresh (s .own .capacity) (s .board)) (freshChecks s) (fresh-answers (s .own) (s .other) (s .board)) h
 
@@ -97,13 +103,19 @@ module _ (hs : List Stream) (s : Pair) (is : Standing hs s) where
       pair-taken s fines o refl (part-within fines (6 ∷ 7 ∷ []) (orderCheck C (s .board) o) refl (fine-within C (s .board) o (is .own .fine)))
 
   -- save's 4 for the other drive stands before its 5
-  pub save-undamaged : (O : List ℕ) → numberBy (pairSaveCheck (s .own) (s .other) (s .board) (length O)) ≡ 5 → ⊥
-  unfolding pairSaveCheck startCheck saveCheck
-  save-undamaged O h =
-      let q = askedOutput (s .own) (s .board) (length O) (512 * blocks (s .own .capacity)) in
+  pub save-undamaged : (form : Sheets) (O : List ℕ) → numberBy (saveChecks form s (length O)) ≡ 5 → ⊥
+  unfolding pairSaveCheck startCheck pairPiecesCheck levelCheck savingCheck
+  save-undamaged Leaves O h =
+      let q = askedOutput (s .own) (s .board) (length O) (sizeOf leafForm (s .own) (s .board)) in
       let look = look-clear hs s is in
       by-bool (bothStart (s .own) (s .other))
-      (λ t. save-not (firstOf saveMay q) q refl (ap not (is .own .fine)) (rw (look, t) at h))
+      (λ t. save-not Leaves (firstOf (leafForm .may) q) q refl (ap not (is .own .fine)) (rw (look, t) at h))
+      (λ f. let z = rw (look, f) at h in omega arith)
+  save-undamaged Pieces O h =
+      let q = askedOutput (s .own) (s .board) (length O) (sizeOf pieceForm (s .own) (s .board)) in
+      let look = look-clear hs s is in
+      by-bool (eqb (s .own .position) (s .other .position))
+      (λ t. save-not Pieces (firstOf (pieceForm .may) q) q refl (ap not (is .own .fine)) (rw (look, t) at h))
       (λ f. let z = rw (look, f) at h in omega arith)
 
   -- so does the fresh layout's
@@ -118,12 +130,12 @@ module _ (hs : List Stream) (s : Pair) (is : Standing hs s) where
   pub undamaged : (a : Deed) → ofBoard a ≡ true → answersOwn a s .number ≡ 5 → ⊥
   unfolding zeroOr pairRoundCheck pairReportCheck
   undamaged (Opens C) o h = not-five (1 ∷ 2 ∷ []) (answersOwn (Opens C) s .number) (lent-within C (s .board) (length (s .list))) refl h
-  undamaged (Reads S) o h = clash o refl
+  undamaged (Reads form S) o h = clash o refl
   undamaged (Adds x w) o h = add-not (shown s) hs (is .own) (s .list) x w (wayAt (addOrder x w) s) (taken (addOrder x w)) h
   undamaged (Removes x) o h = remove-not (shown s) hs (is .own) (s .list) x (wayAt (removeOrder x) s) (taken (removeOrder x)) h
   undamaged Slots o h = let z = slot-served hs s is in omega arith
   undamaged (Rounds O) o h = never-damaged (shown s) hs (is .own) (Round O) (rw (look-clear hs s is) at h)
   undamaged (Reports x) o h = never-damaged (shown s) hs (is .own) (Report x) (rw (look-clear hs s is) at h)
-  undamaged (Saves O) o h = save-undamaged O h
+  undamaged (Saves form O) o h = save-undamaged form O h
   undamaged (Fetches t) o h = clash o refl
   undamaged Refreshes o h = fresh-undamaged h

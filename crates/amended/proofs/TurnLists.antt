@@ -34,13 +34,13 @@ ranListOf s = listThen (s .own) (s .other) (s .board) (s .list)
 own-in-order : (a : Deed) (s : Pair) → InOrder (s .list) → InOrder (listAfter a s)
 unfolding listThen
 own-in-order (Opens C) s is = one.in-order-next (Opens C) (seen s) is
-own-in-order (Reads S) s is = one.in-order-next (Reads S) (seen s) is
+own-in-order (Reads form S) s is = one.in-order-next (Reads form S) (seen s) is
 own-in-order (Adds x w) s is = order-in-order (s .list) (addOrder x w) (wayAt (addOrder x w) s) is
 own-in-order (Removes x) s is = order-in-order (s .list) (removeOrder x) (wayAt (removeOrder x) s) is
 own-in-order Slots s is = check-in-order (firstChecks s) (ranListOf s) (s .list) (if-in-order (bothStart (s .own) (s .other)) (s .own) (s .board) (s .list) is) is
 own-in-order (Rounds O) s is = is
 own-in-order (Reports x) s is = is
-own-in-order (Saves O) s is = is
+own-in-order (Saves form O) s is = is
 own-in-order Refreshes s is = is
 own-in-order (Fetches t) s is = one.in-order-next (Fetches t) (seen s) is
 
@@ -56,7 +56,7 @@ in-order s is turns = projecting.always leaves (λ u. InOrder (u .list)) in-orde
 own-count : (a : Deed) (s : Pair) (ts : List ℕ) → 259 ≤ length (s .list) → CountUp (lastTicket (listAfter a s)) ts → CountUp (lastTicket (s .list)) (ticketOwn a s ++ ts)
 unfolding listThen
 own-count (Opens C) s ts l c = one.count-next (Opens C) (seen s) ts l c
-own-count (Reads S) s ts l c = one.count-next (Reads S) (seen s) ts l c
+own-count (Reads form S) s ts l c = one.count-next (Reads form S) (seen s) ts l c
 own-count (Adds x w) s ts l c =
     let k = wayAt (addOrder x w) s in
     way-count (answersOwn (Adds x w) s) (s .list) (addOrder x w) k l (add-other (seen s) x w k (add-taken s x w)) (λ e. rw e refl) ts c
@@ -66,7 +66,7 @@ own-count (Removes x) s ts l c =
 own-count Slots s ts l c = check-count (firstChecks s) (ranListOf s) (s .list) ts (if-last (bothStart (s .own) (s .other)) (s .own) (s .board) (s .list) l) c
 own-count (Rounds O) s ts l c = c
 own-count (Reports x) s ts l c = c
-own-count (Saves O) s ts l c = c
+own-count (Saves form O) s ts l c = c
 own-count Refreshes s ts l c = c
 own-count (Fetches t) s ts l c = one.count-next (Fetches t) (seen s) ts l c
 
@@ -90,13 +90,13 @@ module _ (t : ℕ) (o : Order) (ahead : List Order) where
   own-follows : (ψ : Fate) (a : Deed) (s : Pair) → Follows t o ahead ψ (seen s) → Follows t o ahead (fateOwn t o ahead ψ a s) (seen (leavesOwn a s))
   unfolding listThen
   own-follows ψ (Opens C) s f = one.follows-next t o ahead ψ (Opens C) (seen s) f
-  own-follows ψ (Reads S) s f = one.follows-next t o ahead ψ (Reads S) (seen s) f
+  own-follows ψ (Reads form S) s f = one.follows-next t o ahead ψ (Reads form S) (seen s) f
   own-follows ψ (Adds x w) s f = order-follows t o ahead ψ (seen s) (seen (leavesOwn (Adds x w) s)) (addOrder x w) (wayAt (addOrder x w) s) refl f
   own-follows ψ (Removes x) s f = order-follows t o ahead ψ (seen s) (seen (leavesOwn (Removes x) s)) (removeOrder x) (wayAt (removeOrder x) s) refl f
   own-follows ψ Slots s f = slot-follows t o ahead ψ (seen s) (seen (leavesOwn Slots s)) (firstChecks s) (bothStart (s .own) (s .other)) refl f
   own-follows ψ (Rounds O) s f = f
   own-follows ψ (Reports x) s f = f
-  own-follows ψ (Saves O) s f = f
+  own-follows ψ (Saves form O) s f = f
   own-follows ψ Refreshes s f = still t o ahead ψ (seen s) (seen (leavesOwn Refreshes s)) refl f
   own-follows ψ (Fetches u) s f = one.follows-next t o ahead ψ (Fetches u) (seen s) f
 

@@ -14,9 +14,9 @@ use Rattle.sheets.specs.Results.{savingAnswer}
 use Rattle.orders.specs.declared.Ordered.{Ordered}
 use Rattle.orders.specs.Answers.{orderingAnswer}
 use Rattle.orders.specs.Results.{addOrder, removeOrder}
-use Rattle.drives.specs.Promises.{Orders, Serves, Rounds, Reports, Saves, Refreshes}
+use Rattle.drives.specs.Promises.{Orders, Serves, Rounds, Reports, Saves, SavesPieces, Refreshes}
 use Rattle.amended.specs.Deeds as deeds
-use Rattle.amended.specs.Deeds.{Deed}
+use Rattle.amended.specs.Deeds.{Leaves, Pieces, Deed}
 use Rattle.amended.specs.Turns.{Pair, answersOwn, returned, boardAfter, listAfter}
 use Rattle.amended.specs.Sharing.{writes}
 
@@ -52,8 +52,12 @@ module _ (s : Pair) where
   report-kept x p = (p .1, ap (λ (r : Reported). r .drive) (p .0))
 
   pub save-kept : (O : List ℕ) {r : Saved} {E : List ℕ} → Saves a b (s .board) O r E
-      → (savingAnswer (r .answer) ≡ answersOwn (deeds.Saves O) s) × (r .drive ≡ returned (deeds.Saves O) s) × (E ≡ writes (deeds.Saves O) s)
+      → (savingAnswer (r .answer) ≡ answersOwn (deeds.Saves Leaves O) s) × (r .drive ≡ returned (deeds.Saves Leaves O) s) × (E ≡ writes (deeds.Saves Leaves O) s)
   save-kept O p = (p .1, ap (λ (r : Saved). r .drive) (p .0), p .2)
+
+  pub save-pieces-kept : (O : List ℕ) {r : Saved} {E : List ℕ} → SavesPieces a b (s .board) O r E
+      → (savingAnswer (r .answer) ≡ answersOwn (deeds.Saves Pieces O) s) × (r .drive ≡ returned (deeds.Saves Pieces O) s) × (E ≡ writes (deeds.Saves Pieces O) s)
+  save-pieces-kept O p = (p .1, ap (λ (r : Saved). r .drive) (p .0), p .2)
 
   pub fresh-kept : {r : Refreshed} {E : List ℕ} → Refreshes a b (s .board) r E
       → (refreshingAnswer (r .answer) ≡ answersOwn deeds.Refreshes s) × (r .drive ≡ returned deeds.Refreshes s) × (E ≡ boardAfter deeds.Refreshes s)

@@ -47,13 +47,13 @@ turned-leaves s (Other a ∷ turns) = turned-leaves (leaves (Other a) s) turns
 -- Neither drive's calls move the other's record, but for an open or a read that is done.
 pub other-stays : (a : Deed) (s : Pair) → one.restarts a (seen s) ≡ false → leavesOwn a s .other ≡ s .other
 other-stays (Opens C) s e = rw (not-clear (openChecks (seen s) C) e .1) refl
-other-stays (Reads S) s e = rw (not-clear (readChecks (seen s) S) e .1) refl
+other-stays (Reads form S) s e = rw (not-clear (readChecks (seen s) form S) e .1) refl
 other-stays (Adds x w) s e = refl
 other-stays (Removes x) s e = refl
 other-stays Slots s e = refl
 other-stays (Rounds O) s e = refl
 other-stays (Reports x) s e = refl
-other-stays (Saves O) s e = refl
+other-stays (Saves form O) s e = refl
 other-stays (Fetches t) s e = refl
 other-stays Refreshes s e = refl
 
@@ -84,13 +84,13 @@ slot-board s (Refused r) = refl
 own-board : (a : Deed) (s : Pair) → one.restarts a (seen s) ≡ false → laysOut a s ≡ false → leavesOwn a s .board ≡ carriedAll (doing (s .own)) (s .board) (carriesOut a s)
 unfolding carriedAll
 own-board (Opens C) s e f = rw (not-clear (openChecks (seen s) C) e .1) refl
-own-board (Reads S) s e f = rw (not-clear (readChecks (seen s) S) e .1) refl
+own-board (Reads form S) s e f = rw (not-clear (readChecks (seen s) form S) e .1) refl
 own-board (Adds x w) s e f = way-board (s .own) (s .board) (addOrder x w) (wayAt (addOrder x w) s)
 own-board (Removes x) s e f = way-board (s .own) (s .board) (removeOrder x) (wayAt (removeOrder x) s)
 own-board Slots s e f = slot-board s (firstChecks s)
 own-board (Rounds O) s e f = refl
 own-board (Reports x) s e f = refl
-own-board (Saves O) s e f = refl
+own-board (Saves form O) s e f = refl
 own-board (Fetches t) s e f = refl
 own-board Refreshes s e f = rw (not-clear (freshChecks s) f .1) refl
 
@@ -115,13 +115,13 @@ module _ {X : Type 0} (f : Drive → List Order → X) (none : (a b : Drive) →
 
   pub carries-alike : (a : Deed) (s : Pair) → f (s .own) (carriesOut a s) ≡ f (s .other) (carriesOut a s)
   carries-alike (Opens C) s = none (s .own) (s .other)
-  carries-alike (Reads S) s = none (s .own) (s .other)
+  carries-alike (Reads form S) s = none (s .own) (s .other)
   carries-alike (Adds x w) s = way-alike s (addOrder x w) (wayAt (addOrder x w) s) refl
   carries-alike (Removes x) s = way-alike s (removeOrder x) (wayAt (removeOrder x) s) refl
   carries-alike Slots s = slot-alike s (firstChecks s) refl
   carries-alike (Rounds O) s = none (s .own) (s .other)
   carries-alike (Reports x) s = none (s .own) (s .other)
-  carries-alike (Saves O) s = none (s .own) (s .other)
+  carries-alike (Saves form O) s = none (s .own) (s .other)
   carries-alike (Fetches t) s = none (s .own) (s .other)
   carries-alike Refreshes s = none (s .own) (s .other)
 
@@ -134,13 +134,13 @@ other-board a s =
 lays-board : (a : Deed) (s : Pair) → laysOut a s ≡ true
     → (refreshedBoard (s .own) (s .board) ≡ leavesOwn a s .board) × (refreshedBoard (s .other) (s .board) ≡ leavesOwn a s .board)
 lays-board (Opens C) s t = clash t refl
-lays-board (Reads S) s t = clash t refl
+lays-board (Reads form S) s t = clash t refl
 lays-board (Adds x w) s t = clash t refl
 lays-board (Removes x) s t = clash t refl
 lays-board Slots s t = clash t refl
 lays-board (Rounds O) s t = clash t refl
 lays-board (Reports x) s t = clash t refl
-lays-board (Saves O) s t = clash t refl
+lays-board (Saves form O) s t = clash t refl
 lays-board (Fetches u) s t = clash t refl
 lays-board Refreshes s t =
     let e = is-clear (freshChecks s) t in
@@ -184,13 +184,13 @@ look-alone u x (Refused r) e = refl
 own-alone : (a : Deed) (s : Pair) → one.restarts a (seen s) ≡ false → after (stateAt (s .own) (leavesOwn a s .board)) (alone a s) ≡ shown (leavesOwn a s)
 unfolding after
 own-alone (Opens C) s e = rw (not-clear (openChecks (seen s) C) e .1) refl
-own-alone (Reads S) s e = rw (not-clear (readChecks (seen s) S) e .1) refl
+own-alone (Reads form S) s e = rw (not-clear (readChecks (seen s) form S) e .1) refl
 own-alone (Adds x w) s e = refl
 own-alone (Removes x) s e = refl
 own-alone Slots s e = slot-alone s (firstChecks s) refl
 own-alone (Rounds O) s e = look-alone (shown s) (Round O) (lookChecks s) refl
 own-alone (Reports x) s e = look-alone (shown s) (Report x) (lookChecks s) refl
-own-alone (Saves O) s e = refl
+own-alone (Saves form O) s e = refl
 own-alone (Fetches t) s e = refl
 own-alone Refreshes s e = refl
 
@@ -225,13 +225,13 @@ look-names u x (Refused r) e = refl
 own-names : (a : Deed) (s : Pair) → nameOwn a s ≡ names (log (stateAt (s .own) (leavesOwn a s .board)) (alone a s))
 unfolding names log
 own-names (Opens C) s = refl
-own-names (Reads S) s = refl
+own-names (Reads form S) s = refl
 own-names (Adds x w) s = refl
 own-names (Removes x) s = refl
 own-names Slots s = slot-names s (firstChecks s) refl
 own-names (Rounds O) s = look-names (shown s) (Round O) (lookChecks s) refl
 own-names (Reports x) s = look-names (shown s) (Report x) (lookChecks s) refl
-own-names (Saves O) s = refl
+own-names (Saves form O) s = refl
 own-names (Fetches t) s = refl
 own-names Refreshes s = refl
 

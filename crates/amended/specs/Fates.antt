@@ -37,13 +37,13 @@ handedOut Gone = Gone
 -- off; no other call does anything to it.
 abbrev pub fateNext : ℕ → Order → List Order → Fate → Deed → Desk → Fate
 fateNext t o ahead φ (Opens C) s = cond (restarts (Opens C) s) Gone φ
-fateNext t o ahead φ (Reads S) s = cond (restarts (Reads S) s) Gone φ
+fateNext t o ahead φ (Reads form S) s = cond (restarts (Reads form S) s) Gone φ
 fateNext t o ahead φ (Adds x w) s = φ
 fateNext t o ahead φ (Removes x) s = φ
 fateNext t o ahead φ Slots s = cond (runs s) (ran (inTurn (s .state) ahead o) φ) φ
 fateNext t o ahead φ (Rounds O) s = φ
 fateNext t o ahead φ (Reports x) s = φ
-fateNext t o ahead φ (Saves O) s = φ
+fateNext t o ahead φ (Saves form O) s = φ
 fateNext t o ahead φ (Fetches u) s = cond (eqb u t) (handedOut φ) φ
 fateNext t o ahead φ Refreshes s = φ
 

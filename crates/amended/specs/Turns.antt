@@ -18,12 +18,12 @@ use Rattle.waiting.specs.Layout.{waiting}
 use Rattle.orders.specs.declared.Way.{Way}
 use Rattle.orders.specs.declared.Way.the-variants as way
 use Rattle.orders.specs.Results.{addOrder, removeOrder}
-use Rattle.drives.specs.Checks.{listCheck, lookCheck, bothStart, wayOf, pairFreshCheck}
-use Rattle.drives.specs.Results.{changed, changedAnswer, changedBoard, changedList, served, servedAnswer, servedBoard, servedList, rounded, roundedAnswer, reported, reportedAnswer, saved, savedAnswer, refreshed, refreshedAnswer, refreshedBoard}
+use Rattle.drives.specs.Checks.{listCheck, lookCheck, bothStart, wayOf, pairSaveCheck, pairPiecesCheck, pairFreshCheck}
+use Rattle.drives.specs.Results.{changed, changedAnswer, changedBoard, changedList, served, servedAnswer, servedBoard, servedList, rounded, roundedAnswer, reported, reportedAnswer, savedBy, savedAnswerBy, refreshed, refreshedAnswer, refreshedBoard}
 use Rattle.amended.specs.Histories.{through, along, Each}
 use Rattle.amended.specs.Carried.{actsOf}
 use Rattle.amended.specs.Deeds as one
-use Rattle.amended.specs.Deeds.{Deed, Opens, Reads, Adds, Removes, Slots, Rounds, Reports, Saves, Fetches, Refreshes, Desk, desk, isClear, ticketIn}
+use Rattle.amended.specs.Deeds.{Sheets, Leaves, Pieces, formOf, Deed, Opens, Reads, Adds, Removes, Slots, Rounds, Reports, Saves, Fetches, Refreshes, Desk, desk, isClear, ticketIn}
 
 -- The records, the board and the list between two calls: a drive's own record first.
 pub record Pair : Type 0 where
@@ -59,6 +59,11 @@ firstChecks s = listCheck (s .own) (s .other) (s .board) (length (s .list))
 abbrev pub lookChecks : Pair → Check
 lookChecks s = lookCheck (s .own) (s .other) (s .board)
 
+-- Those of save, by the form.
+abbrev pub saveChecks : Sheets → Pair → ℕ → Check
+saveChecks Leaves s n = pairSaveCheck (s .own) (s .other) (s .board) n
+saveChecks Pieces s n = pairPiecesCheck (s .own) (s .other) (s .board) n
+
 -- And those of the fresh layout.
 abbrev pub freshChecks : Pair → Check
 freshChecks s = pairFreshCheck (s .own) (s .other) (s .board)
@@ -72,26 +77,26 @@ wayAt o s = wayOf (s .own) (s .other) (s .board) (s .list) o
 -- What it says: number and values.
 abbrev pub answersOwn : Deed → Pair → Answer
 answersOwn (Opens C) s = one.answers (Opens C) (seen s)
-answersOwn (Reads S) s = one.answers (Reads S) (seen s)
+answersOwn (Reads form S) s = one.answers (Reads form S) (seen s)
 answersOwn (Adds x w) s = changedAnswer (s .own) (s .other) (s .board) (s .list) (addOrder x w)
 answersOwn (Removes x) s = changedAnswer (s .own) (s .other) (s .board) (s .list) (removeOrder x)
 answersOwn Slots s = servedAnswer (s .own) (s .other) (s .board) (s .list)
 answersOwn (Rounds O) s = roundedAnswer (s .own) (s .other) (s .board) O
 answersOwn (Reports x) s = reportedAnswer (s .own) (s .other) (s .board) x
-answersOwn (Saves O) s = savedAnswer (s .own) (s .other) (s .board) O
+answersOwn (Saves form O) s = savedAnswerBy (formOf form) (saveChecks form s (length O)) (s .own) (s .board)
 answersOwn (Fetches t) s = one.answers (Fetches t) (seen s)
 answersOwn Refreshes s = refreshedAnswer (s .own) (s .other) (s .board)
 
 -- The record that it returns.
 abbrev pub returned : Deed → Pair → Drive
 returned (Opens C) s = one.returned (Opens C) (seen s)
-returned (Reads S) s = one.returned (Reads S) (seen s)
+returned (Reads form S) s = one.returned (Reads form S) (seen s)
 returned (Adds x w) s = changed (s .own) (s .other) (s .board) (s .list) (addOrder x w) .drive
 returned (Removes x) s = changed (s .own) (s .other) (s .board) (s .list) (removeOrder x) .drive
 returned Slots s = served (s .own) (s .other) (s .board) (s .list) .drive
 returned (Rounds O) s = rounded (s .own) (s .other) (s .board) O .drive
 returned (Reports x) s = reported (s .own) (s .other) (s .board) x .drive
-returned (Saves O) s = saved (s .own) (s .other) (s .board) O .drive
+returned (Saves form O) s = savedBy (formOf form) (saveChecks form s (length O)) (s .own) (s .board) .drive
 returned (Fetches t) s = one.returned (Fetches t) (seen s)
 returned Refreshes s = refreshed (s .own) (s .other) (s .board) .drive
 
@@ -99,50 +104,50 @@ returned Refreshes s = refreshed (s .own) (s .other) (s .board) .drive
 -- returns for the own drive alone.
 abbrev pub ownAfter : Deed → Pair → Drive
 ownAfter (Opens C) s = one.recordAfter (Opens C) (seen s)
-ownAfter (Reads S) s = one.recordAfter (Reads S) (seen s)
+ownAfter (Reads form S) s = one.recordAfter (Reads form S) (seen s)
 ownAfter (Adds x w) s = returned (Adds x w) s
 ownAfter (Removes x) s = returned (Removes x) s
 ownAfter Slots s = returned Slots s
 ownAfter (Rounds O) s = returned (Rounds O) s
 ownAfter (Reports x) s = returned (Reports x) s
-ownAfter (Saves O) s = returned (Saves O) s
+ownAfter (Saves form O) s = returned (Saves form O) s
 ownAfter (Fetches t) s = returned (Fetches t) s
 ownAfter Refreshes s = returned Refreshes s
 
 abbrev pub otherAfter : Deed → Pair → Drive
 otherAfter (Opens C) s = one.recordAfter (Opens C) (seen (exchanged s))
-otherAfter (Reads S) s = one.recordAfter (Reads S) (seen (exchanged s))
+otherAfter (Reads form S) s = one.recordAfter (Reads form S) (seen (exchanged s))
 otherAfter (Adds x w) s = s .other
 otherAfter (Removes x) s = s .other
 otherAfter Slots s = s .other
 otherAfter (Rounds O) s = s .other
 otherAfter (Reports x) s = s .other
-otherAfter (Saves O) s = s .other
+otherAfter (Saves form O) s = s .other
 otherAfter (Fetches t) s = s .other
 otherAfter Refreshes s = s .other
 
 -- What it leaves of the board, and of the list.
 abbrev pub boardAfter : Deed → Pair → List ℕ
 boardAfter (Opens C) s = one.boardAfter (Opens C) (seen s)
-boardAfter (Reads S) s = one.boardAfter (Reads S) (seen s)
+boardAfter (Reads form S) s = one.boardAfter (Reads form S) (seen s)
 boardAfter (Adds x w) s = changedBoard (s .own) (s .other) (s .board) (s .list) (addOrder x w)
 boardAfter (Removes x) s = changedBoard (s .own) (s .other) (s .board) (s .list) (removeOrder x)
 boardAfter Slots s = servedBoard (s .own) (s .other) (s .board) (s .list)
 boardAfter (Rounds O) s = s .board
 boardAfter (Reports x) s = s .board
-boardAfter (Saves O) s = s .board
+boardAfter (Saves form O) s = s .board
 boardAfter (Fetches t) s = s .board
 boardAfter Refreshes s = refreshedBoard (s .own) (s .other) (s .board)
 
 abbrev pub listAfter : Deed → Pair → List ℕ
 listAfter (Opens C) s = one.listAfter (Opens C) (seen s)
-listAfter (Reads S) s = one.listAfter (Reads S) (seen s)
+listAfter (Reads form S) s = one.listAfter (Reads form S) (seen s)
 listAfter (Adds x w) s = changedList (s .own) (s .other) (s .board) (s .list) (addOrder x w)
 listAfter (Removes x) s = changedList (s .own) (s .other) (s .board) (s .list) (removeOrder x)
 listAfter Slots s = servedList (s .own) (s .other) (s .board) (s .list)
 listAfter (Rounds O) s = s .list
 listAfter (Reports x) s = s .list
-listAfter (Saves O) s = s .list
+listAfter (Saves form O) s = s .list
 listAfter (Fetches t) s = one.listAfter (Fetches t) (seen s)
 listAfter Refreshes s = s .list
 
@@ -201,26 +206,26 @@ ifNow way.Now o = o ∷ []
 
 abbrev pub carriesOut : Deed → Pair → List Order
 carriesOut (Opens C) s = []
-carriesOut (Reads S) s = []
+carriesOut (Reads form S) s = []
 carriesOut (Adds x w) s = ifNow (wayAt (addOrder x w) s) (addOrder x w)
 carriesOut (Removes x) s = ifNow (wayAt (removeOrder x) s) (removeOrder x)
 carriesOut Slots s = ifClear (firstChecks s) (due s) []
 carriesOut (Rounds O) s = []
 carriesOut (Reports x) s = []
-carriesOut (Saves O) s = []
+carriesOut (Saves form O) s = []
 carriesOut (Fetches t) s = []
 carriesOut Refreshes s = []
 
 -- A fresh layout that is done is an act of both too.
 abbrev pub laysOut : Deed → Pair → Bool
 laysOut (Opens C) s = false
-laysOut (Reads S) s = false
+laysOut (Reads form S) s = false
 laysOut (Adds x w) s = false
 laysOut (Removes x) s = false
 laysOut Slots s = false
 laysOut (Rounds O) s = false
 laysOut (Reports x) s = false
-laysOut (Saves O) s = false
+laysOut (Saves form O) s = false
 laysOut (Fetches t) s = false
 laysOut Refreshes s = isClear (freshChecks s)
 
@@ -231,13 +236,13 @@ shared a s = cond (laysOut a s) (Fresh ∷ []) (actsOf (carriesOut a s))
 -- What else it is: an act of the own drive alone.
 abbrev pub alone : Deed → Pair → List Act
 alone (Opens C) s = []
-alone (Reads S) s = []
+alone (Reads form S) s = []
 alone (Adds x w) s = []
 alone (Removes x) s = []
 alone Slots s = ifClear (firstChecks s) (Slot ∷ []) []
 alone (Rounds O) s = ifClear (lookChecks s) (Round O ∷ []) []
 alone (Reports x) s = ifClear (lookChecks s) (Report x ∷ []) []
-alone (Saves O) s = []
+alone (Saves form O) s = []
 alone (Fetches t) s = []
 alone Refreshes s = []
 
@@ -257,13 +262,13 @@ nameIn a = cond (eqb (a .number) 0) (getD (a .values) 0 0 ∷ []) []
 
 abbrev pub nameOwn : Deed → Pair → List ℕ
 nameOwn (Opens C) s = []
-nameOwn (Reads S) s = []
+nameOwn (Reads form S) s = []
 nameOwn (Adds x w) s = []
 nameOwn (Removes x) s = []
 nameOwn Slots s = nameIn (answersOwn Slots s)
 nameOwn (Rounds O) s = []
 nameOwn (Reports x) s = []
-nameOwn (Saves O) s = []
+nameOwn (Saves form O) s = []
 nameOwn (Fetches t) s = []
 nameOwn Refreshes s = []
 
@@ -286,13 +291,13 @@ pub record FullRound (s : Pair) (rest : List Turn) : Type 0 where
 -- The ticket that a call of either drive tells: an add or a remove that answers 13.
 abbrev pub ticketOwn : Deed → Pair → List ℕ
 ticketOwn (Opens C) s = []
-ticketOwn (Reads S) s = []
+ticketOwn (Reads form S) s = []
 ticketOwn (Adds x w) s = ticketIn (answersOwn (Adds x w) s)
 ticketOwn (Removes x) s = ticketIn (answersOwn (Removes x) s)
 ticketOwn Slots s = []
 ticketOwn (Rounds O) s = []
 ticketOwn (Reports x) s = []
-ticketOwn (Saves O) s = []
+ticketOwn (Saves form O) s = []
 ticketOwn (Fetches t) s = []
 ticketOwn Refreshes s = []
 

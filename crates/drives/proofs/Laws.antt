@@ -2,26 +2,31 @@
 -- are answered; when a change is made at once and when the list is run; that neither drive comes first; and that one is two.
 -- Assumes nothing.
 use mathlib.Core.Path.{_≡_, refl, sym, ap, _∙_}
-use mathlib.Core.Bool.{Bool, true, false}
+use mathlib.Core.Bool.{Bool, true, false, not}
 use mathlib.Core.List.{List, [], _∷_}
 use Prim.Native.Nat.{ℕ, _*_}
+use native.Mathlib.Omega.{arith}
+use lib.Dec.{eqb}
 use lib.ListN.{length}
+use borrow.Author.Tests.{eqb-true}
 use Rattle.calls.specs.declared.Drive.{Drive}
 use Rattle.calls.specs.declared.Refusal.{Refusal}
+use Rattle.calls.specs.declared.Refusal.the-variants.{Midround}
 use Rattle.calls.specs.declared.Check.{Check}
 use Rattle.calls.specs.declared.Check.the-variants.{Clear, Refused}
 use Rattle.calls.specs.declared.Served.{Served}
 use Rattle.calls.specs.declared.Rounded.{Rounded}
 use Rattle.calls.specs.declared.Refreshed.{Refreshed}
 use Rattle.calls.specs.declared.Reported.{Reported}
-use Rattle.calls.specs.Refusals.{zeroOr, numbers, among, asked, askedName, askedOutput, slotMay, roundMay, reportMay, changeMay, roundCheck, reportCheck, changeCheck}
+use Rattle.calls.specs.Refusals.{zeroOr, refuseIf, numbers, among, asked, askedName, askedOutput, slotMay, roundMay, reportMay, changeMay, roundCheck, reportCheck, changeCheck}
 use Rattle.calls.specs.Answers.{Answer, servingAnswer, roundingAnswer, refreshingAnswer, reportAnswer}
 use Rattle.calls.specs.Results.{ifClear}
 use Rattle.calls.specs.Results as plain
-use Rattle.calls.proofs.Laws.{then-clear, unique, Refuses, refuses, refusal, may, within-among, first-within, then-within, covers}
+use Rattle.calls.proofs.Laws.{first-clear, then-clear, unique, Refuses, refuses, refusal, may, within-among, first-within, then-within, if-within, covers, part-within}
 use Rattle.sheets.specs.declared.Saved.{Saved}
 use Rattle.sheets.specs.Sheet.{blocks}
-use Rattle.sheets.specs.Results.{saveMay, saveCheck, savingAnswer}
+use Rattle.sheets.specs.Forms.{sizeOf, savingCheck, savedOutputAs}
+use Rattle.sheets.specs.Results.{saveMay, saveCheck, savingAnswer, savePiecesMay, pieceForm}
 use Rattle.waiting.specs.declared.Order.{Order}
 use Rattle.waiting.specs.Layout.{tooShort, taken, takenList}
 use Rattle.orders.specs.declared.Ordered.{Ordered}
@@ -29,9 +34,9 @@ use Rattle.orders.specs.declared.Ordering.the-variants as ordering
 use Rattle.orders.specs.declared.Way.the-variants as way
 use Rattle.orders.specs.Answers.{orderingAnswer, listed}
 use Rattle.orders.specs.Results.{addOrder, removeOrder}
-use Rattle.drives.specs.Checks.{listCheck, lookCheck, bothStart, wayOf, startCheck, pairRoundCheck, pairReportCheck, pairSaveCheck, pairFreshCheck}
-use Rattle.drives.specs.Results.{changed, changedBoard, changedList, boardThen, listThen, servedAnswer, servedBoard, servedList, roundedAnswer, reportedAnswer, savedAnswer, refreshedAnswer, refreshedBoard}
-use Rattle.drives.specs.Promises.{Orders, Serves, Rounds, Reports, Saves, Refreshes}
+use Rattle.drives.specs.Checks.{listCheck, lookCheck, bothStart, wayOf, startCheck, pairRoundCheck, pairReportCheck, pairSaveCheck, levelCheck, pairPiecesCheck, pairFreshCheck}
+use Rattle.drives.specs.Results.{changed, changedBoard, changedList, boardThen, listThen, servedAnswer, servedBoard, servedList, roundedAnswer, reportedAnswer, savedAnswer, savedPiecesAnswer, savedPiecesOutput, refreshedAnswer, refreshedBoard}
+use Rattle.drives.specs.Promises.{Orders, Serves, Rounds, Reports, Saves, SavesPieces, Refreshes}
 use Rattle.drives.proofs.Pairs.{pair-clear, pair-swap, start-swap}
 use Rattle.drives.proofs.Alike.{ran-alike}
 use Rattle.drives.proofs.Answering.{pair-within, behind-within, four-within, start-both, add-answers, remove-answers, change-still}
@@ -40,7 +45,7 @@ use Rattle.drives.proofs.Answering.{pair-within, behind-within, four-wi
 pub use Rattle.drives.proofs.Pairs.{Paired, pair-clear, clear-pair, pair-vouch, pair-swap, start-swap}
 -- ---- one is two: with one record in both places each call is that of one drive
 
-pub use Rattle.drives.proofs.Single.{one-start, one-list, one-look, one-way, change-one-is-two, slot-one-is-two, round-one-is-two, report-one-is-two, save-one-is-two, fresh-one-is-two}
+pub use Rattle.drives.proofs.Single.{one-start, one-list, one-look, one-way, change-one-is-two, slot-one-is-two, round-one-is-two, report-one-is-two, save-one-is-two, save-pieces-one-is-two, fresh-one-is-two}
 -- ---- whose call carries an order out does not matter: only C and p are looked at
 
 pub use Rattle.drives.proofs.Alike.{add-alike, remove-alike, carried-alike, answer-alike, board-alike, all-alike, outcomes-alike, ran-alike}
@@ -197,7 +202,7 @@ module _ (a b : Drive) (B O : List ℕ) where
   save-refused p h = rw (p .0, p .2, refusal (pairSaveCheck a b B (length O)) (refuses (p .1) h) .1) (refl, refl, refl)
 
   pub save-answers : among (savedAnswer a b B O .number) saveMay ≡ true
-  unfolding pairSaveCheck saveCheck covers zeroOr
+  unfolding pairSaveCheck savingCheck covers zeroOr
   save-answers =
       let ns = numbers saveMay in
       within-among saveMay (pairSaveCheck a b B (length O))
@@ -207,6 +212,42 @@ module _ (a b : Drive) (B O : List ℕ) where
 
   pub save-may : {r : Saved} {E : List ℕ} → Saves a b B O r E → among (savingAnswer (r .answer) .number) saveMay ≡ true
   save-may p = may saveMay (p .1) save-answers
+
+-- ---- save of the piece form: 1, 2, 3, 4 where the drives are at different positions, 5, 11
+
+module _ (a b : Drive) (B O : List ℕ) where
+  pub save-pieces-unique : {r s : Saved} {E F : List ℕ} → SavesPieces a b B O r E → SavesPieces a b B O s F → (r ≡ s) × (E ≡ F)
+  save-pieces-unique p q = (unique (p .0) (q .0), unique (p .2) (q .2))
+
+  pub save-pieces-refused : {r : Saved} {E : List ℕ} → SavesPieces a b B O r E → Refuses (savingAnswer (r .answer))
+      → (r .drive ≡ a) × (savingAnswer (r .answer) .values ≡ 0 ∷ []) × (E ≡ O)
+  save-pieces-refused p h = rw (p .0, p .2, refusal (pairPiecesCheck a b B (length O)) (refuses (p .1) h) .1) (refl, refl, refl)
+
+  pub save-pieces-answers : among (savedPiecesAnswer a b B O .number) saveMay ≡ true
+  unfolding pairPiecesCheck levelCheck savingCheck covers zeroOr
+  save-pieces-answers =
+      let ns = numbers saveMay in
+      let apart = not (eqb (a .position) (b .position)) in
+      within-among saveMay (pairPiecesCheck a b B (length O))
+      (then-within ns (levelCheck a b B) (savingCheck pieceForm a B (length O))
+      (behind-within a b B ns (refuseIf apart Midround Clear) refl (if-within ns apart Midround Clear refl refl))
+      (part-within ns (numbers savePiecesMay) (savingCheck pieceForm a B (length O)) refl (first-within savePiecesMay (askedOutput a B (length O) (sizeOf pieceForm a B)))))
+
+  pub save-pieces-may : {r : Saved} {E : List ℕ} → SavesPieces a b B O r E → among (savingAnswer (r .answer) .number) saveMay ≡ true
+  save-pieces-may p = may saveMay (p .1) save-pieces-answers
+
+  -- Where it is done both drives are at the position saved, and it is that of one drive.
+  pub save-pieces-one-drive : pairPiecesCheck a b B (length O) ≡ Clear
+      → (a .position ≡ b .position) × (savingCheck pieceForm a B (length O) ≡ Clear) × (savedPiecesOutput a b B O ≡ savedOutputAs pieceForm a B O)
+  unfolding pairPiecesCheck levelCheck
+  save-pieces-one-drive e =
+      let k = then-clear (levelCheck a b B) (savingCheck pieceForm a B (length O)) e in
+      let level = then-clear (lookCheck a b B) (refuseIf (not (eqb (a .position) (b .position))) Midround Clear) (first-clear (levelCheck a b B) (savingCheck pieceForm a B (length O)) e) in
+      (level-same (eqb (a .position) (b .position)) refl level, k, rw (e, k) refl)
+    where
+      level-same : (t : Bool) → eqb (a .position) (b .position) ≡ t → refuseIf (not t) Midround Clear ≡ Clear → a .position ≡ b .position
+      level-same true e z = eqb-true (a .position) (b .position) e
+      level-same false e z = let y : _≡_ {A = ℕ} 0 1 = cc in absurd (omega arith)
 
 -- ---- the fresh layout
 

@@ -17,13 +17,15 @@ use Rattle.calls.specs.Refusals.{applies, asked, askedName, askedOutput, firstO
 use Rattle.calls.specs.Results as plain
 use Rattle.calls.proofs.Laws.{first-next, slot-parts}
 use Rattle.sheets.specs.Sheet.{blocks}
+use Rattle.sheets.specs.Forms.{sizeOf, savingCheck, savedAs, savedAnswerAs, savedOutputAs}
 use Rattle.sheets.specs.Results as sheets
+use Rattle.sheets.specs.Results.{pieceForm}
 use Rattle.waiting.specs.declared.Order.{Order}
 use Rattle.waiting.specs.Layout.{tooShort}
 use Rattle.orders.specs.Checks as bounds
 use Rattle.orders.specs.Results as single
-use Rattle.drives.specs.Checks.{sizeCheck, placeCheck, pairCheck, listCheck, lookCheck, bothStart, wayOf, startCheck, pairRoundCheck, pairReportCheck, pairSaveCheck, pairFreshCheck}
-use Rattle.drives.specs.Results.{boardThen, listThen, changed, changedAnswer, changedBoard, changedList, served, servedAnswer, servedBoard, servedList, rounded, roundedAnswer, roundedOutput, reported, reportedAnswer, saved, savedAnswer, savedOutput, refreshed, refreshedAnswer, refreshedBoard}
+use Rattle.drives.specs.Checks.{sizeCheck, placeCheck, pairCheck, listCheck, lookCheck, bothStart, wayOf, startCheck, pairRoundCheck, pairReportCheck, pairSaveCheck, levelCheck, pairPiecesCheck, pairFreshCheck}
+use Rattle.drives.specs.Results.{boardThen, listThen, changed, changedAnswer, changedBoard, changedList, served, servedAnswer, servedBoard, servedList, rounded, roundedAnswer, roundedOutput, reported, reportedAnswer, saved, savedAnswer, savedOutput, savedPieces, savedPiecesAnswer, savedPiecesOutput, refreshed, refreshedAnswer, refreshedBoard}
 
 -- ---- the checks
 
@@ -80,11 +82,18 @@ module _ (d : Drive) (B : List ℕ) where
       rw (one-look, first-next slotMay rs q) (again (firstOf slotMay q) (firstOf rs q))
 
   one-save : (n : ℕ) → pairSaveCheck d d B n ≡ sheets.saveCheck d B n
-  unfolding pairSaveCheck startCheck sheets.saveCheck slotCheck applies
+  unfolding pairSaveCheck startCheck savingCheck slotCheck applies
   one-save n =
       let q = askedOutput d B n (512 * blocks (d .capacity)) in
       let rs = Capacity ∷ Short ∷ Position ∷ Midround ∷ [] in
       rw (one-look, one-start d, ← first-next slotMay (Midround ∷ []) q, first-next rs (Damaged ∷ Output ∷ []) q) (again (firstOf rs q) (firstOf (Damaged ∷ Output ∷ []) q))
+
+  one-pieces : (n : ℕ) → pairPiecesCheck d d B n ≡ savingCheck pieceForm d B n
+  unfolding pairPiecesCheck levelCheck savingCheck slotCheck
+  one-pieces n =
+      let q = askedOutput d B n (sizeOf pieceForm d B) in
+      let rs = Damaged ∷ Output ∷ [] in
+      rw (one-look, eq-eqb (d .position) (d .position) refl, then-none (slotCheck d B), first-next slotMay rs q) (again (firstOf slotMay q) (firstOf rs q))
 
   one-fresh : pairFreshCheck d d B ≡ changeCheck d B
   unfolding pairFreshCheck startCheck changeCheck slotCheck applies
@@ -133,6 +142,11 @@ module _ (d : Drive) (B : List ℕ) where
   pub save-one-is-two : (O : List ℕ)
       → (saved d d B O ≡ sheets.saved d B O) × (savedAnswer d d B O ≡ sheets.savedAnswer d B O) × (savedOutput d d B O ≡ sheets.savedOutput d B O)
   save-one-is-two O = let k = one-save d B (length O) in (rw k refl, rw k refl, rw k refl)
+
+  pub save-pieces-one-is-two : (O : List ℕ)
+      → (savedPieces d d B O ≡ savedAs pieceForm d B O) × (savedPiecesAnswer d d B O ≡ savedAnswerAs pieceForm d B O)
+      × (savedPiecesOutput d d B O ≡ savedOutputAs pieceForm d B O)
+  save-pieces-one-is-two O = let k = one-pieces d B (length O) in (rw k refl, rw k refl, rw k refl)
 
   pub fresh-one-is-two : (refreshed d d B ≡ plain.refreshed d B) × (refreshedAnswer d d B ≡ plain.refreshedAnswer d B) × (refreshedBoard d d B ≡ plain.refreshedBoard d B)
   fresh-one-is-two = let k = one-fresh d B in (rw k refl, rw k refl, rw k refl)

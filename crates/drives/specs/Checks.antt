@@ -10,7 +10,8 @@ use Rattle.calls.specs.declared.Refusal.the-variants.{Capacity, Short, Position
 use Rattle.calls.specs.declared.Check.{Check}
 use Rattle.calls.specs.declared.Check.the-variants.{Clear}
 use Rattle.calls.specs.Refusals.{applies, asked, refuseIf, andThen, roundCheck, reportCheck, changeCheck}
-use Rattle.sheets.specs.Results.{saveCheck}
+use Rattle.sheets.specs.Forms.{savingCheck}
+use Rattle.sheets.specs.Results.{saveCheck, pieceForm}
 use Rattle.waiting.specs.declared.Order.{Order}
 use Rattle.waiting.specs.Layout.{tooShort}
 use Rattle.orders.specs.declared.Way.{Way}
@@ -50,7 +51,11 @@ wayOf a b B L o = wayBy (listCheck a b B (length L)) (waitsIf (bothStart a b) L)
 unfoldable pub startCheck : Drive → Drive → List ℕ → Check
 startCheck a b B = andThen (lookCheck a b B) (refuseIf (not (bothStart a b)) Midround Clear)
 
--- Round, report, save and the fresh layout: the checks of both records, and then those of the call of one drive.
+-- 1 to 3, and 4 if the records are at different positions.
+unfoldable pub levelCheck : Drive → Drive → List ℕ → Check
+levelCheck a b B = andThen (lookCheck a b B) (refuseIf (not (eqb (a .position) (b .position))) Midround Clear)
+
+-- Round, report, save of each form and the fresh layout: the checks of both records, and then those of the call of one drive.
 unfoldable pub pairRoundCheck : Drive → Drive → List ℕ → ℕ → Check
 pairRoundCheck a b B n = andThen (lookCheck a b B) (roundCheck a B n)
 
@@ -59,6 +64,9 @@ pairReportCheck a b B x = andThen (lookCheck a b B) (reportCheck a B x)
 
 unfoldable pub pairSaveCheck : Drive → Drive → List ℕ → ℕ → Check
 pairSaveCheck a b B n = andThen (startCheck a b B) (saveCheck a B n)
+
+unfoldable pub pairPiecesCheck : Drive → Drive → List ℕ → ℕ → Check
+pairPiecesCheck a b B n = andThen (levelCheck a b B) (savingCheck pieceForm a B n)
 
 unfoldable pub pairFreshCheck : Drive → Drive → List ℕ → Check
 pairFreshCheck a b B = andThen (startCheck a b B) (changeCheck a B)

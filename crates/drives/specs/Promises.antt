@@ -15,7 +15,7 @@ use Rattle.sheets.specs.Results.{savingAnswer}
 use Rattle.waiting.specs.declared.Order.{Order}
 use Rattle.orders.specs.declared.Ordered.{Ordered}
 use Rattle.orders.specs.Answers.{orderingAnswer}
-use Rattle.drives.specs.Results.{changed, changedAnswer, changedBoard, changedList, served, servedAnswer, servedBoard, servedList, rounded, roundedAnswer, roundedOutput, reported, reportedAnswer, saved, savedAnswer, savedOutput, refreshed, refreshedAnswer, refreshedBoard}
+use Rattle.drives.specs.Results.{changed, changedAnswer, changedBoard, changedList, served, servedAnswer, servedBoard, servedList, rounded, roundedAnswer, roundedOutput, reported, reportedAnswer, saved, savedAnswer, savedOutput, savedPieces, savedPiecesAnswer, savedPiecesOutput, refreshed, refreshedAnswer, refreshedBoard}
 
 abbrev pub Orders : Drive → Drive → List ℕ → List ℕ → Order → Ordered → List ℕ → List ℕ → Type 0
 Orders a b B L o r E F =
@@ -32,6 +32,9 @@ Reports a b B x r = (r ≡ reported a b B x) × (reportAnswer (r .answer) ≡ re
 
 abbrev pub Saves : Drive → Drive → List ℕ → List ℕ → Saved → List ℕ → Type 0
 Saves a b B O r E = (r ≡ saved a b B O) × (savingAnswer (r .answer) ≡ savedAnswer a b B O) × (E ≡ savedOutput a b B O)
+
+abbrev pub SavesPieces : Drive → Drive → List ℕ → List ℕ → Saved → List ℕ → Type 0
+SavesPieces a b B O r E = (r ≡ savedPieces a b B O) × (savingAnswer (r .answer) ≡ savedPiecesAnswer a b B O) × (E ≡ savedPiecesOutput a b B O)
 
 abbrev pub Refreshes : Drive → Drive → List ℕ → Refreshed → List ℕ → Type 0
 Refreshes a b B r E = (r ≡ refreshed a b B) × (refreshingAnswer (r .answer) ≡ refreshedAnswer a b B) × (E ≡ refreshedBoard a b B)

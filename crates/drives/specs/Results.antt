@@ -2,11 +2,12 @@
 -- back, b that of the other, which is only looked at. What a change does and what a slot serves are those of `orders`, at the record a.
 -- Assumes nothing.
 use mathlib.Core.List.{List, [], _∷_, _++_}
-use Prim.Native.Nat.{ℕ, _*_}
+use Prim.Native.Nat.{ℕ}
 use lib.ListN.{length, drop}
 use Rattle.pieces.specs.Board.{weight, number}
 use Rattle.pieces.specs.Fresh as layout
 use Rattle.calls.specs.declared.Drive.{Drive}
+use Rattle.calls.specs.declared.Check.{Check}
 use Rattle.calls.specs.declared.Served.{Served}
 use Rattle.calls.specs.declared.Rounded.{Rounded}
 use Rattle.calls.specs.declared.Refreshed.{Refreshed}
@@ -14,13 +15,13 @@ use Rattle.calls.specs.declared.Reported.{Reported}
 use Rattle.calls.specs.Answers.{Answer, answered}
 use Rattle.calls.specs.Results.{ifClear, roundingBy, roundNames, refreshingBy, reportBy, reportedSpacing}
 use Rattle.sheets.specs.declared.Saved.{Saved}
-use Rattle.sheets.specs.Sheet.{blocks, sheet}
-use Rattle.sheets.specs.Results.{savingBy}
+use Rattle.sheets.specs.Forms.{Form, sizeOf, savingBy}
+use Rattle.sheets.specs.Results.{leafForm, pieceForm}
 use Rattle.waiting.specs.declared.Order.{Order}
 use Rattle.waiting.specs.Layout.{takenList}
 use Rattle.orders.specs.declared.Ordered.{Ordered}
 use Rattle.orders.specs.Results.{carriedBoard, changedBy, changedAnswerBy, boardBy, listBy, boardIf, listIf, servedBy, servedAnswerBy}
-use Rattle.drives.specs.Checks.{listCheck, bothStart, wayOf, pairRoundCheck, pairReportCheck, pairSaveCheck, pairFreshCheck}
+use Rattle.drives.specs.Checks.{listCheck, bothStart, wayOf, pairRoundCheck, pairReportCheck, pairSaveCheck, pairPiecesCheck, pairFreshCheck}
 
 -- ---- add and remove, by the way that is chosen
 
@@ -79,16 +80,35 @@ reported a b B x =
 abbrev pub reportedAnswer : Drive → Drive → List ℕ → ℕ → Answer
 reportedAnswer a b B x = answered (pairReportCheck a b B x) (weight (a .capacity) B x ∷ number (a .capacity) B x ∷ reportedSpacing a B x ∷ [])
 
+-- save of a form of sheet, by what the check k finds
+abbrev pub savedBy : Form → Check → Drive → List ℕ → Saved
+savedBy F k a B = record { drive = a; answer = savingBy k (sizeOf F a B) }
+
+abbrev pub savedAnswerBy : Form → Check → Drive → List ℕ → Answer
+savedAnswerBy F k a B = answered k (sizeOf F a B ∷ [])
+
+abbrev pub savedOutputBy : Form → Check → Drive → List ℕ → List ℕ → List ℕ
+savedOutputBy F k a B O =
+    let done = F .sheet (a .capacity) (a .position) B ++ drop (sizeOf F a B) O in
+    ifClear k done O
+
 abbrev pub saved : Drive → Drive → List ℕ → List ℕ → Saved
-saved a b B O = record { drive = a; answer = savingBy (pairSaveCheck a b B (length O)) (512 * blocks (a .capacity)) }
+saved a b B O = savedBy leafForm (pairSaveCheck a b B (length O)) a B
 
 abbrev pub savedAnswer : Drive → Drive → List ℕ → List ℕ → Answer
-savedAnswer a b B O = answered (pairSaveCheck a b B (length O)) (512 * blocks (a .capacity) ∷ [])
+savedAnswer a b B O = savedAnswerBy leafForm (pairSaveCheck a b B (length O)) a B
 
 abbrev pub savedOutput : Drive → Drive → List ℕ → List ℕ → List ℕ
-savedOutput a b B O =
-    let done = sheet (a .capacity) B ++ drop (512 * blocks (a .capacity)) O in
-    ifClear (pairSaveCheck a b B (length O)) done O
+savedOutput a b B O = savedOutputBy leafForm (pairSaveCheck a b B (length O)) a B O
+
+abbrev pub savedPieces : Drive → Drive → List ℕ → List ℕ → Saved
+savedPieces a b B O = savedBy pieceForm (pairPiecesCheck a b B (length O)) a B
+
+abbrev pub savedPiecesAnswer : Drive → Drive → List ℕ → List ℕ → Answer
+savedPiecesAnswer a b B O = savedAnswerBy pieceForm (pairPiecesCheck a b B (length O)) a B
+
+abbrev pub savedPiecesOutput : Drive → Drive → List ℕ → List ℕ → List ℕ
+savedPiecesOutput a b B O = savedOutputBy pieceForm (pairPiecesCheck a b B (length O)) a B O
 
 abbrev pub refreshed : Drive → Drive → List ℕ → Refreshed
 refreshed a b B = record { drive = a; answer = refreshingBy (pairFreshCheck a b B) }

@@ -1,4 +1,4 @@
-// The calls for two drives on one board with one waiting list: add, remove, slot, round, report, save, the fresh layout. `own` is the record of the drive that the call is
+// The calls for two drives on one board with one waiting list: add, remove, slot, round, report, save of each form of sheet, the fresh layout. `own` is the record of the drive that the call is
 // for, and comes back; `other` is the other drive's, and is only looked at. Open, read and fetch are those of one drive: their record is for both.
 ghost use mathlib.Core.Path.{_≡_};
 ghost use Prim.Native.Nat.{_≤_, _<_, max};
@@ -203,6 +203,35 @@ pub fn save(own: Drive, other: Drive, board: &[u16], output: &mut [u8]) -> Saved
             answer: Saving::Refused(r),
         },
         Check::Clear => sheets::save(own, board, output),
+    }
+}
+
+// The refusals 1 to 4, of which 4 is for records at different positions.
+fn check_level(own: Drive, other: Drive, board: &[u16]) -> Check
+    ensures { λ r. ⌜ r ≡ checks.levelCheck own other (now (board .entry)) ⌝ }
+{
+    match check_pair(own, other, board, false) {
+        Check::Refused(r) => Check::Refused(r),
+        Check::Clear => {
+            if own.position == other.position {
+                Check::Clear
+            } else {
+                Check::Refused(Refusal::Midround)
+            }
+        }
+    }
+}
+
+// Saves the board at any position that both drives are at: the sheet of its pieces at the start of the output.
+pub fn save_pieces(own: Drive, other: Drive, board: &[u16], output: &mut [u8]) -> Saved
+    ensures { λ r. ⌜ promises.SavesPieces own other (now (board .entry)) (now (output .entry)) r (now (output .exit)) ⌝ }
+{
+    match check_level(own, other, board) {
+        Check::Refused(r) => Saved {
+            drive: own,
+            answer: Saving::Refused(r),
+        },
+        Check::Clear => sheets::save_pieces(own, board, output),
     }
 }
 

@@ -25,18 +25,18 @@ use Rattle.calls.specs.Results.{ifClear, changeBy, admittedBy, addedIdle, remov
 use Rattle.calls.proofs.Laws.{by-bool, Sized, open-clear, first-clear, then-clear, slot-parts, add-clear, remove-clear, add-keeps, remove-keeps}
 use Rattle.sheets.specs.declared.Loaded.{Loaded}
 use Rattle.sheets.specs.declared.Loading.the-variants as loading
-use Rattle.sheets.specs.Sheet.{capacityIn, leavesIn}
-use Rattle.sheets.specs.Results as sheets
-use Rattle.sheets.specs.Results.{loadingBy}
+use Rattle.sheets.specs.declared.Loading.{Loading}
+use Rattle.sheets.specs.Forms as sheets
+use Rattle.sheets.specs.Forms.{Form, startCheck, loadingBy, loadingAnswer}
 use Rattle.waiting.specs.declared.Order.{Order}
 use Rattle.waiting.specs.Carrying.{carriedAll}
 use Rattle.waiting.specs.Layout.{tooShort, answersIn, ordersIn, orderAt, waiting, counted, answeredAt, full, taken, emptied}
 use Rattle.waiting.proofs.Laws.{stateFrom, listFrom, state-more, list-more, state-all, list-all}
 use Rattle.orders.specs.declared.Way.the-variants as way
 use Rattle.orders.specs.Answers.{orderingAnswer, made, listed}
-use Rattle.orders.specs.Checks.{longCheck, lentCheck, boundsCheck, readCheck, shortBy, shortList, wayBy}
-use Rattle.orders.specs.Results.{carried, carriedAnswer, carriedBoard, doing, saying, takenAnswer, ranBoard, ranList, boardIf, boardThen}
-use Rattle.orders.specs.Promises.{Loads}
+use Rattle.orders.specs.Checks.{longCheck, lentCheck, boundsCheck, readingCheck, shortBy, shortList, wayBy}
+use Rattle.orders.specs.Results.{carried, carriedAnswer, carriedBoard, doing, saying, takenAnswer, ranBoard, ranList, boardIf, boardThen, emptiedBy}
+use Rattle.orders.specs.Promises.{LoadsAs}
 
 refuse-clear : (b : Bool) (r : Refusal) (k : Check) → refuseIf b r k ≡ Clear → (b ≡ false) × (k ≡ Clear)
 refuse-clear true r k e = let z : _≡_ {A = ℕ} 0 1 = cc in absurd (omega arith)
@@ -196,46 +196,41 @@ then-short : (k : Check) → andThen k (Refused Short) ≡ Refused (shortBy k)
 then-short Clear = refl
 then-short (Refused r) = refl
 
-loading-refused : (k : Check) (r : Refusal) → loadingBy k ≡ loading.Refused r → k ≡ Refused r
-loading-refused Clear r e = let z : _≡_ {A = ℕ} 0 1 = cc in absurd (omega arith)
-loading-refused (Refused q) r e = let z : q ≡ r = cc in ap (λ (x : Refusal). Refused x) z
+-- what was read without the list, in number and values, and the list after it
+loading-told : (k : Check) → loadingAnswer (loadingBy k) ≡ answered k []
+loading-told Clear = refl
+loading-told (Refused r) = refl
 
-loading-done : (k : Check) → loadingBy k ≡ loading.Done → k ≡ Clear
-loading-done Clear e = refl
-loading-done (Refused q) e = let z : _≡_ {A = ℕ} 0 1 = cc in absurd (omega arith)
+list-told : (k : Check) (L : List ℕ) → emptiedBy (loadingBy k) L ≡ ifClear k (emptied L) L
+list-told Clear L = refl
+list-told (Refused r) L = refl
 
-module _ (s B L : List ℕ) where
-  short-check : length L < 259 → readCheck s B (length L) ≡ Refused (shortList s B)
-  unfolding readCheck
-  short-check h = rw (lt-ltb (length L) 259 h) (then-short (sheets.startCheck s B))
+pub read-rebuilt : (x : Loaded) (a : Loading) → x .answer ≡ a → record { drive = x .drive; answer = a } ≡ x
+read-rebuilt x a e = ap (λ (b : Loading). record { drive = x .drive; answer = b }) (sym e)
 
-  long-check : 259 ≤ length L → readCheck s B (length L) ≡ sheets.readCheck s B
-  unfolding readCheck sheets.readCheck
+module _ (F : Form) (s B L : List ℕ) where
+  short-check : length L < 259 → readingCheck F s B (length L) ≡ Refused (shortList s B)
+  unfolding readingCheck
+  short-check h = rw (lt-ltb (length L) 259 h) (then-short (startCheck s B))
+
+  long-check : 259 ≤ length L → readingCheck F s B (length L) ≡ sheets.readingCheck F s B
+  unfolding readingCheck sheets.readingCheck
   long-check h = rw (le-ltb (length L) 259 h) refl
 
   -- what is accepted is accepted without a list, and the list is long enough
-  pub read-accepts : readCheck s B (length L) ≡ Clear → (259 ≤ length L) × (sheets.readCheck s B ≡ Clear)
-  read-accepts e = elim (decLt (length L) 259) [
+  pub reading-accepts : readingCheck F s B (length L) ≡ Clear → (259 ≤ length L) × (sheets.readingCheck F s B ≡ Clear)
+  reading-accepts e = elim (decLt (length L) 259) [
     | yes h ↦ let f = sym (short-check h) ∙ e in let z : _≡_ {A = ℕ} 0 1 = cc in absurd (omega arith)
     | no h ↦ (omega arith, sym (long-check (omega arith)) ∙ e)
   ]
 
   -- the list is too short
-  pub read-short : (r : Refusal) → r ≡ shortList s B → length L < 259 → Loads s B L (record { drive = driveAt 0 0; answer = loading.Refused r }) B L
+  pub read-short : (r : Refusal) → r ≡ shortList s B → length L < 259 → LoadsAs F s B L (record { drive = driveAt 0 0; answer = loading.Refused r }) B L
   read-short r e h = let k = short-check h ∙ ap (λ (x : Refusal). Refused x) (sym e) in rw k (refl, refl, refl, refl)
 
   -- else the board is read as without a list, and the list emptied if that is done
-  module _ (x : Loaded) (E : List ℕ) (is : x ≡ sheets.loaded s B) (left : E ≡ sheets.loadedBoard s B) (long : 259 ≤ length L) where
-    pub read-refused : (r : Refusal) → x .answer ≡ loading.Refused r → Loads s B L (record { drive = x .drive; answer = loading.Refused r }) E L
-    read-refused r e =
-        let k = loading-refused (sheets.readCheck s B) r (sym (ap (λ (y : Loaded). y .answer) is) ∙ e) in
-        let d : x .drive ≡ driveAt 0 0 = ap (λ (y : Loaded). y .drive) is ∙ rw k refl in
-        let b : E ≡ B = left ∙ rw k refl in
-        rw (long-check long, k, d, b) (refl, refl, refl, refl)
-
-    pub read-done : x .answer ≡ loading.Done → Loads s B L (record { drive = x .drive; answer = loading.Done }) E (emptied L)
-    read-done e =
-        let k = loading-done (sheets.readCheck s B) (sym (ap (λ (y : Loaded). y .answer) is) ∙ e) in
-        let d : x .drive ≡ driveAt (capacityIn s) 1 = ap (λ (y : Loaded). y .drive) is ∙ rw k refl in
-        let b : E ≡ leavesIn (capacityIn s) s ++ drop (capacityIn s) B = left ∙ rw k refl in
-        rw (long-check long, k, d, b) (refl, refl, refl, refl)
+  pub read-takes : (x y : Loaded) (E M : List ℕ) → 259 ≤ length L → x ≡ sheets.loadedAs F s B → E ≡ sheets.loadedBoardAs F s B → y ≡ x → M ≡ emptiedBy (x .answer) L
+      → LoadsAs F s B L y E M
+  read-takes x y E M long is left same list =
+      let k = sheets.readingCheck F s B in
+      rw (long-check long, same, is) (refl, loading-told k, left, list ∙ rw is (list-told k L))

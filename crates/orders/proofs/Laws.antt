@@ -3,11 +3,11 @@
 -- Assumes nothing.
 use mathlib.Core.Path.{_≡_, refl, sym, ap, _∙_}
 use mathlib.Core.Bool.{Bool, true, false}
-use mathlib.Core.List.{List, [], _∷_}
+use mathlib.Core.List.{List, [], _∷_, _++_}
 use Prim.Native.Nat.{ℕ, _≤_}
 use native.Mathlib.Omega.{arith}
 use lib.Dec.{eqb}
-use lib.ListN.{length}
+use lib.ListN.{length, drop}
 use borrow.Author.Tests.{ne-eqb, eqb-true, le-ltb}
 use Rattle.calls.specs.declared.Drive.{Drive}
 use Rattle.calls.specs.declared.Refusal.{Refusal}
@@ -23,18 +23,24 @@ use Rattle.calls.specs.Results.{ifClear}
 use Rattle.calls.proofs.Laws.{by-bool, first-clear, then-clear, slot-parts}
 use Rattle.sheets.specs.declared.Loaded.{Loaded}
 use Rattle.waiting.specs.declared.Order.{Order}
-use Rattle.waiting.specs.Layout.{full, taken, takenList, answerOf}
+use Rattle.sheets.specs.Sheet.{capacityIn}
+use Rattle.sheets.specs.Entries.{positionIn, spelled}
+use Rattle.sheets.specs.Forms as forms
+use Rattle.sheets.specs.Forms.{Form}
+use Rattle.sheets.specs.Results as sheets
+use Rattle.sheets.specs.Results.{leafForm, pieceForm}
+use Rattle.waiting.specs.Layout.{full, taken, takenList, answerOf, emptied}
 use Rattle.orders.specs.declared.Ordered.{Ordered}
 use Rattle.orders.specs.declared.Ordering.the-variants as ordering
 use Rattle.orders.specs.declared.Way.{Way}
 use Rattle.orders.specs.declared.Way.the-variants as way
 use Rattle.orders.specs.Answers.{orderingAnswer, made, listed, outcomeOf, fetchingAnswer}
-use Rattle.orders.specs.Checks.{lentCheck, boundsCheck, orderCheck, readCheck, mustWait, wayBy, wayOf}
-use Rattle.orders.specs.Results.{carried, carriedAnswer, saying, changed, changedBoard, changedList, boardThen, listThen, served, servedBoard, servedList, opened, openedBoard, openedList, loaded, loadedBoard, loadedList}
-use Rattle.orders.specs.Promises.{Opens, Loads, Takes, Orders, ServesBy, Serves}
+use Rattle.orders.specs.Checks.{lentCheck, boundsCheck, orderCheck, readingCheck, readCheck, mustWait, wayBy, wayOf}
+use Rattle.orders.specs.Results.{carried, carriedAnswer, saying, changed, changedBoard, changedList, boardThen, listThen, served, servedBoard, servedList, opened, openedBoard, openedList, loadedAs, loadedBoardAs, loadedListAs, loaded, loadedBoard, loadedList}
+use Rattle.orders.specs.Promises.{Opens, LoadsAs, Loads, LoadsPieces, Takes, Orders, ServesBy, Serves}
 -- ---- what is known once the first checks are clear, what a change says, and that orders keep the board's length
 
-pub use Rattle.orders.proofs.Changing.{lent-open, lent-long, bounds-slot, bounds-long, bounds-vouch, way-wait, made-says, taken-says, carried-length, all-length, if-slot, then-slot, read-accepts}
+pub use Rattle.orders.proofs.Changing.{lent-open, lent-long, bounds-slot, bounds-long, bounds-vouch, way-wait, made-says, taken-says, carried-length, all-length, if-slot, then-slot, reading-accepts}
 
 pub bounds-clear : (d : Drive) (B : List ℕ) (n : ℕ) → slotCheck d B ≡ Clear → 259 ≤ n → boundsCheck d B n ≡ Clear
 unfolding boundsCheck lentCheck
@@ -60,8 +66,14 @@ same p q = p ∙ sym q
 pub open-unique : (C : ℕ) (B L : List ℕ) {r s : Opened} {E F G H : List ℕ} → Opens C B L r E F → Opens C B L s G H → (r ≡ s) × (E ≡ G) × (F ≡ H)
 open-unique C B L p q = (same (p .0) (q .0), same (p .2) (q .2), same (p .3) (q .3))
 
+loads-unique : (form : Form) (S B L : List ℕ) {r s : Loaded} {E F G H : List ℕ} → LoadsAs form S B L r E F → LoadsAs form S B L s G H → (r ≡ s) × (E ≡ G) × (F ≡ H)
+loads-unique form S B L p q = (same (p .0) (q .0), same (p .2) (q .2), same (p .3) (q .3))
+
 pub read-unique : (S B L : List ℕ) {r s : Loaded} {E F G H : List ℕ} → Loads S B L r E F → Loads S B L s G H → (r ≡ s) × (E ≡ G) × (F ≡ H)
-read-unique S B L p q = (same (p .0) (q .0), same (p .2) (q .2), same (p .3) (q .3))
+read-unique = loads-unique leafForm
+
+pub read-pieces-unique : (S B L : List ℕ) {r s : Loaded} {E F G H : List ℕ} → LoadsPieces S B L r E F → LoadsPieces S B L s G H → (r ≡ s) × (E ≡ G) × (F ≡ H)
+read-pieces-unique = loads-unique pieceForm
 
 pub change-unique : (d : Drive) (B L : List ℕ) (o : Order) {r s : Ordered} {E F G H : List ℕ} → Orders d B L o r E F → Orders d B L o s G H → (r ≡ s) × (E ≡ G) × (F ≡ H)
 change-unique d B L o p q = (same (p .0) (q .0), same (p .2) (q .2), same (p .3) (q .3))
@@ -141,6 +153,27 @@ pub open-refused : (C : ℕ) (B L : List ℕ) (r : Refusal) → lentCheck C B (l
     → (opened C B (length L) .drive ≡ driveAt 0 0) × (openedBoard C B (length L) ≡ B) × (openedList C B L ≡ L)
 open-refused C B L r e = (rw e refl, rw e refl, rw e refl)
 
+loads-refused : (F : Form) (s B L : List ℕ) (r : Refusal) → readingCheck F s B (length L) ≡ Refused r
+    → (loadedAs F s B (length L) .drive ≡ driveAt 0 0) × (loadedBoardAs F s B (length L) ≡ B) × (loadedListAs F s B L ≡ L)
+loads-refused F s B L r e = (rw e refl, rw e refl, rw e refl)
+
 pub read-refused : (s B L : List ℕ) (r : Refusal) → readCheck s B (length L) ≡ Refused r
     → (loaded s B (length L) .drive ≡ driveAt 0 0) × (loadedBoard s B (length L) ≡ B) × (loadedList s B L ≡ L)
-read-refused s B L r e = (rw e refl, rw e refl, rw e refl)
+read-refused = loads-refused leafForm
+
+pub read-pieces-refused : (s B L : List ℕ) (r : Refusal) → readingCheck pieceForm s B (length L) ≡ Refused r
+    → (loadedAs pieceForm s B (length L) .drive ≡ driveAt 0 0) × (loadedBoardAs pieceForm s B (length L) ≡ B) × (loadedListAs pieceForm s B L ≡ L)
+read-pieces-refused = loads-refused pieceForm
+
+-- ---- a read that is done: the record is at round 0 and the sheet's position, the board has the sheet's leaves, and no order waits
+
+pub read-accepts : (s B L : List ℕ) → readCheck s B (length L) ≡ Clear → (259 ≤ length L) × (sheets.readCheck s B ≡ Clear)
+read-accepts = reading-accepts leafForm
+
+pub read-pieces-accepts : (s B L : List ℕ) → readingCheck pieceForm s B (length L) ≡ Clear → (259 ≤ length L) × (forms.readingCheck pieceForm s B ≡ Clear)
+read-pieces-accepts = reading-accepts pieceForm
+
+pub read-pieces-done : (s B L : List ℕ) → readingCheck pieceForm s B (length L) ≡ Clear
+    → (loadedAs pieceForm s B (length L) .drive ≡ record { capacity = capacityIn s; position = positionIn s; round = 0 })
+    × (loadedBoardAs pieceForm s B (length L) ≡ spelled (capacityIn s) s ++ drop (capacityIn s) B) × (loadedListAs pieceForm s B L ≡ emptied L)
+read-pieces-done s B L e = (rw e refl, rw e refl, rw e refl)

@@ -12,9 +12,10 @@ use Rattle.calls.specs.declared.Refusal.{Refusal}
 use Rattle.calls.specs.declared.Refusal.the-variants.{Short, Damaged, Name, Weight}
 use Rattle.calls.specs.declared.Check.{Check}
 use Rattle.calls.specs.declared.Check.the-variants.{Clear, Refused}
-use Rattle.calls.specs.Refusals.{refuseIf, andThen, openCheck, slotCheck, positionCheck, goodCheck}
-use Rattle.sheets.specs.Sheet.{capacityIn, leavesIn, laid}
-use Rattle.sheets.specs.Results.{blockCheck, startCheck}
+use Rattle.calls.specs.Refusals.{refuseIf, andThen, openCheck, slotCheck, positionCheck}
+use Rattle.sheets.specs.Sheet.{capacityIn}
+use Rattle.sheets.specs.Forms.{Form, startCheck, heldCheck}
+use Rattle.sheets.specs.Results.{leafForm}
 use Rattle.waiting.specs.declared.Order.{Order}
 use Rattle.waiting.specs.Layout.{tooShort, ordersIn}
 use Rattle.orders.specs.declared.Way.{Way}
@@ -32,11 +33,13 @@ lentCheck C B n = andThen (openCheck C B) (longCheck n)
 unfoldable pub boundsCheck : Drive → List ℕ → ℕ → Check
 boundsCheck d B n = andThen (lentCheck (d .capacity) B n) (positionCheck (d .capacity) (d .position))
 
--- read, in its own order: under 512 bytes, 12; 1, and 2 for the board or the list; anything wrong with length or layout, 12; the sheet's board not good, 5.
-unfoldable pub readCheck : List ℕ → List ℕ → ℕ → Check
-readCheck s B n =
-    let C = capacityIn s in
-    andThen (startCheck s B) (andThen (longCheck n) (andThen (blockCheck (not (laid C s))) (goodCheck C (leavesIn C s))))
+-- read of a form of sheet, in its own order: under 512 bytes, 12; 1, and 2 for the board or the list; anything wrong with length or layout, 12; the sheet's board
+-- not good, 5.
+unfoldable pub readingCheck : Form → List ℕ → List ℕ → ℕ → Check
+readingCheck F s B n = andThen (startCheck s B) (andThen (longCheck n) (heldCheck F (capacityIn s) s))
+
+abbrev pub readCheck : List ℕ → List ℕ → ℕ → Check
+readCheck = readingCheck leafForm
 
 -- What read is refused for where the list is too short.
 abbrev pub shortBy : Check → Refusal

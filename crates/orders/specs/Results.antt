@@ -17,8 +17,11 @@ use Rattle.calls.specs.Refusals.{numberOf}
 use Rattle.calls.specs.Answers.{Answer, answered}
 use Rattle.calls.specs.Results as plain
 use Rattle.sheets.specs.declared.Loaded.{Loaded}
-use Rattle.sheets.specs.Sheet.{capacityIn, leavesIn}
-use Rattle.sheets.specs.Results.{loadingBy}
+use Rattle.sheets.specs.declared.Loading.{Loading}
+use Rattle.sheets.specs.declared.Loading.the-variants as loading
+use Rattle.sheets.specs.Sheet.{capacityIn}
+use Rattle.sheets.specs.Forms.{Form, loadingBy}
+use Rattle.sheets.specs.Results.{leafForm}
 use Rattle.waiting.specs.declared.Order.{Order}
 use Rattle.waiting.specs.declared.Outcome.{Outcome}
 use Rattle.waiting.specs.Layout.{lastTicket, waiting, full, taken, takenList, settled, emptied}
@@ -29,7 +32,7 @@ use Rattle.orders.specs.declared.Ordered.{Ordered}
 use Rattle.orders.specs.declared.Way.{Way}
 use Rattle.orders.specs.declared.Way.the-variants as way
 use Rattle.orders.specs.Answers.{made, listed, outcomeOf}
-use Rattle.orders.specs.Checks.{lentCheck, boundsCheck, readCheck, wayOf}
+use Rattle.orders.specs.Checks.{lentCheck, boundsCheck, readingCheck, wayOf}
 
 -- ---- one order carried out: kind 1 adds, kind 2 removes, any other is answered 7
 
@@ -160,14 +163,33 @@ openedBoard C B n = plain.ifClear (lentCheck C B n) (plain.idleBoard C B) B
 abbrev pub openedList : ℕ → List ℕ → List ℕ → List ℕ
 openedList C B L = plain.ifClear (lentCheck C B (length L)) (emptied L) L
 
+abbrev pub loadedAs : Form → List ℕ → List ℕ → ℕ → Loaded
+loadedAs F s B n =
+    record { drive = plain.ifClear (readingCheck F s B n) (driveAt (capacityIn s) (F .position s)) (driveAt 0 0); answer = loadingBy (readingCheck F s B n) }
+
+abbrev pub loadedAnswerAs : Form → List ℕ → List ℕ → ℕ → Answer
+loadedAnswerAs F s B n = answered (readingCheck F s B n) []
+
+abbrev pub loadedBoardAs : Form → List ℕ → List ℕ → ℕ → List ℕ
+loadedBoardAs F s B n = plain.ifClear (readingCheck F s B n) (F .leaves (capacityIn s) s ++ drop (capacityIn s) B) B
+
+abbrev pub loadedListAs : Form → List ℕ → List ℕ → List ℕ → List ℕ
+loadedListAs F s B L = plain.ifClear (readingCheck F s B (length L)) (emptied L) L
+
+-- of a sheet of leaves, at p = 1
 abbrev pub loaded : List ℕ → List ℕ → ℕ → Loaded
-loaded s B n = record { drive = plain.ifClear (readCheck s B n) (driveAt (capacityIn s) 1) (driveAt 0 0); answer = loadingBy (readCheck s B n) }
+loaded = loadedAs leafForm
 
 abbrev pub loadedAnswer : List ℕ → List ℕ → ℕ → Answer
-loadedAnswer s B n = answered (readCheck s B n) []
+loadedAnswer = loadedAnswerAs leafForm
 
 abbrev pub loadedBoard : List ℕ → List ℕ → ℕ → List ℕ
-loadedBoard s B n = plain.ifClear (readCheck s B n) (leavesIn (capacityIn s) s ++ drop (capacityIn s) B) B
+loadedBoard = loadedBoardAs leafForm
 
 abbrev pub loadedList : List ℕ → List ℕ → List ℕ → List ℕ
-loadedList s B L = plain.ifClear (readCheck s B (length L)) (emptied L) L
+loadedList = loadedListAs leafForm
+
+-- The list after a read without it, by what that answers.
+abbrev pub emptiedBy : Loading → List ℕ → List ℕ
+emptiedBy loading.Done L = emptied L
+emptiedBy (loading.Refused r) L = L

@@ -368,17 +368,11 @@ fn short_list(sheet: &[u8], board: &[u16]) -> Refusal
     }
 }
 
-// Reads a sheet, and empties the list.
-pub fn read(sheet: &[u8], board: &mut [u16], list: &mut [u64]) -> Loaded
-    ensures { λ r. ⌜ promises.Loads (now (sheet .entry)) (now (board .entry)) (now (list .entry)) r (now (board .exit)) (now (list .exit)) ⌝ }
+// What was read without the list; where that is done the list is emptied.
+fn empty_after(loaded: Loaded, list: &mut [u64]) -> Loaded
+    requires { ⌜ 259 ≤ length (now list) ⌝ }
+    ensures { λ r. ⌜ (r ≡ loaded) × (now (list .exit) ≡ results.emptiedBy (loaded .answer) (now (list .entry))) ⌝ }
 {
-    if list.len() < waiting::LENGTH {
-        return Loaded {
-            drive: Drive::new(0, 0),
-            answer: Loading::Refused(short_list(sheet, board)),
-        };
-    }
-    let loaded = sheets::read(sheet, board);
     let drive = loaded.drive;
     let answer = loaded.answer;
     match answer {
@@ -394,4 +388,30 @@ pub fn read(sheet: &[u8], board: &mut [u16], list: &mut [u64]) -> Loaded
             }
         }
     }
+}
+
+// Reads a sheet, and empties the list.
+pub fn read(sheet: &[u8], board: &mut [u16], list: &mut [u64]) -> Loaded
+    ensures { λ r. ⌜ promises.Loads (now (sheet .entry)) (now (board .entry)) (now (list .entry)) r (now (board .exit)) (now (list .exit)) ⌝ }
+{
+    if list.len() < waiting::LENGTH {
+        return Loaded {
+            drive: Drive::new(0, 0),
+            answer: Loading::Refused(short_list(sheet, board)),
+        };
+    }
+    empty_after(sheets::read(sheet, board), list)
+}
+
+// Reads a sheet of pieces, at the position that it has, and empties the list.
+pub fn read_pieces(sheet: &[u8], board: &mut [u16], list: &mut [u64]) -> Loaded
+    ensures { λ r. ⌜ promises.LoadsPieces (now (sheet .entry)) (now (board .entry)) (now (list .entry)) r (now (board .exit)) (now (list .exit)) ⌝ }
+{
+    if list.len() < waiting::LENGTH {
+        return Loaded {
+            drive: Drive::new(0, 0),
+            answer: Loading::Refused(short_list(sheet, board)),
+        };
+    }
+    empty_after(sheets::read_pieces(sheet, board), list)
 }

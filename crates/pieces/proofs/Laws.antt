@@ -10,6 +10,7 @@ use lib.Count.{ones}
 use lib.ListN.{getD, length}
 use Rattle.pieces.specs.Board.{pieces, nth, good, Good, sum, weight, number}
 use Rattle.pieces.specs.Literal.{IsPiece, LiesIn}
+use Rattle.pieces.specs.Placing.{fill}
 use Rattle.pieces.specs.Tidying.{Removable, removed}
 -- Boards worked by hand. They are computed before any law is proved, so that a wrong rule falls on them first.
 pub use Rattle.pieces.proofs.Examples.{worked}
@@ -17,6 +18,12 @@ pub use Rattle.pieces.proofs.Examples.{worked}
 pub use Rattle.pieces.proofs.Placing.{placed-length, placed-good, placed-weight, placed-idle, placed-others, placed-leaf, placed-beyond}
 -- A board laid out afresh: its entries, that it is good, what each name holds, that each stream can be added in its turn, that it hangs on the weights alone.
 pub use Rattle.pieces.proofs.Layouts.{fresh-length, fresh-beyond, fresh-good, fresh-weights, fresh-placeable, fresh-same, fresh-again}
+-- A run of one name, leaf by leaf.
+pub use Rattle.pieces.proofs.Blocks.{by-bool, clash, whole-elim, whole-name, whole-end}
+-- The list of a board's pieces: block by block; that it hangs on the leaves alone; its length and its numbers; that each entry is a piece of a named stream, in
+-- order, and no leaf of a stream is left out; that there is no second such list.
+pub use Rattle.pieces.proofs.Entries.{leaf-whole, named-past, named-run, named-halves, named-same, named-few, named-words}
+pub use Rattle.pieces.proofs.Rows.{nameIn, startIn, sizeIn, named-entries, Complete, same-entries}
 use Rattle.pieces.proofs.Blocks.{total, pieces-runs}
 use Rattle.pieces.proofs.Replace.{Agree, runs-local}
 use Rattle.pieces.proofs.Piece.{nth-order}
@@ -24,6 +31,7 @@ use Rattle.pieces.proofs.Literal as literal
 use Rattle.pieces.proofs.Literal.{good-intro, good-elim}
 use Rattle.pieces.proofs.Opened.{idle-good}
 use Rattle.pieces.proofs.Weight as weights
+use Rattle.pieces.proofs.Adding as adding
 use Rattle.pieces.proofs.Removed as removing
 use Rattle.pieces.proofs.Sums as sums
 
@@ -88,6 +96,16 @@ pub over-pieces : (C : ℕ) (B : List ℕ) (x : ℕ) (s : ℕ → ℕ → ℕ) (
     → ((a l : ℕ) → a % 2 ^ l ≡ 0 → a + 2 ^ l ≤ C → ((i : ℕ) → a ≤ i → i < a + 2 ^ l → getD B i 0 ≡ x) → (K * s a l ≤ 2 ^ l * T + D) × (2 ^ l * T ≤ K * s a l + D))
     → C ≤ 4095 → (K * s 0 12 ≤ weight C B x * T + number C B x * D) × (weight C B x * T ≤ K * s 0 12 + number C B x * D)
 over-pieces C B x s K T D halves none run few = sums.over-pieces C B x s K T D halves none run few
+
+-- Leaves given to a name.
+pub fill-length : (B : List ℕ) (a n x : ℕ) → length (fill B a n x) ≡ length B
+fill-length = adding.length-fill
+
+pub fill-inside : (B : List ℕ) (a n x i : ℕ) → a ≤ i → i < a + n → i < length B → getD (fill B a n x) i 0 ≡ x
+fill-inside = adding.fill-in
+
+pub fill-outside : (B : List ℕ) (a n x i : ℕ) → (a ≤ i → i < a + n → ⊥) → getD (fill B a n x) i 0 ≡ getD B i 0
+fill-outside = adding.fill-out
 
 -- ---- the board after a remove that passes its checks
 

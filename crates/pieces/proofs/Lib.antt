@@ -16,6 +16,8 @@ mod Joining
 mod Steps
 mod Sums
 mod Opened
+mod Entries
+mod Rows
 pub mod Laws
 mod Admitting
 mod Placing

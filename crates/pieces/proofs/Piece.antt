@@ -110,14 +110,14 @@ module _ (C : ℕ) (B : List ℕ) (x : ℕ) where
         | no r ↦ omega (arith, pieces-runs C B x e b 0, runs-above C B x e b 0 (omega arith))
       ]
 
-  piece-low : {a e b l : ℕ} → whole C B x b (suc l) ≡ false → Piece a e b l → Piece a e b (suc l)
+  pub piece-low : {a e b l : ℕ} → whole C B x b (suc l) ≡ false → Piece a e b l → Piece a e b (suc l)
   piece-low {a} {e} {b} {l} f p =
       record { inside = low (p .inside); run = p .run; top = λ q i j. ⊎-elim (λ r. subst₂ (λ (c m : ℕ). whole C B x c m ≡ false) (sym (r .0)) (sym (r .1)) f) (⊎-elim (p .top q i) (λ r. away q i r)) (in-cases j) }
     where
       away : (q : ℕ) → In a e q (suc e) → In q (suc e) (b + 2 ^ l) l → whole C B x q (suc e) ≡ false
       away q i j = let s = bounds i in let t = bounds j in let u = bounds (p .inside) in absurd (omega (arith, pow-pos e))
 
-  piece-high : {a e b l : ℕ} → whole C B x b (suc l) ≡ false → Piece a e (b + 2 ^ l) l → Piece a e b (suc l)
+  pub piece-high : {a e b l : ℕ} → whole C B x b (suc l) ≡ false → Piece a e (b + 2 ^ l) l → Piece a e b (suc l)
   piece-high {a} {e} {b} {l} f p =
       record { inside = high (p .inside); run = p .run; top = λ q i j. ⊎-elim (λ r. subst₂ (λ (c m : ℕ). whole C B x c m ≡ false) (sym (r .0)) (sym (r .1)) f) (⊎-elim (λ r. away q i r) (p .top q i)) (in-cases j) }
     where

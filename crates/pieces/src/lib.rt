@@ -14,8 +14,10 @@ ghost use Rattle.pieces.specs.Halving as halving;
 ghost use Rattle.pieces.specs.Fresh as fresh;
 ghost use Rattle.pieces.specs.Laying as laying;
 
+pub mod listing;
+
 // The number of leaves of a run of exponent l.
-fn size_of(l: usize) -> usize
+pub fn size_of(l: usize) -> usize
     requires { ⌜ l ≤ 12 ⌝ }
     ensures { λ r. ⌜ r ≡ 2 ^ l ⌝ }
 {
@@ -310,7 +312,7 @@ fn seek(board: &[u16], c: usize, a: usize, l: usize, n: usize) -> Spot
 // ---- placing
 
 // Gives the leaves from a on to a name.
-fn fill(board: &mut [u16], a: usize, size: usize, name: u16)
+pub fn fill(board: &mut [u16], a: usize, size: usize, name: u16)
     requires { ⌜ (a + size ≤ length (now board)) × (a + size ≤ 4096) ⌝ }
     ensures { λ _. ⌜ now (board .exit) ≡ placing.fill (now (board .entry)) a size name ⌝ }
 {

@@ -1,37 +1,44 @@
--- What the checks of save and read find, part by part, and what is known once they find nothing. Assumes nothing.
-use mathlib.Core.Path.{_≡_, refl, sym, _∙_}
+-- What the checks of save of each form and of read of any form find, part by part, and what is known once they find nothing. Assumes nothing.
+use mathlib.Core.Path.{_≡_, refl, sym, ap, _∙_}
 use mathlib.Core.Bool.{Bool, true, false, not}
 use mathlib.Core.List.{List, [], _∷_, _++_}
 use Prim.Native.Nat.{ℕ, _*_, _≤_, _<_}
 use native.Mathlib.Omega.{arith}
 use lib.Dec.{eqb, ltb}
 use lib.ListN.{length, drop}
-use borrow.Author.Tests.{lt-ltb, le-ltb, ltb-false, not-false}
+use borrow.Author.Tests.{lt-ltb, le-ltb, ltb-false, eqb-true, not-false}
 use Rattle.pieces.specs.Board.{good}
 use Rattle.calls.specs.Records.{driveAt}
 use Rattle.calls.specs.Refusals.{applies, refuseIf, askedOutput, slotMay, openCheck, slotCheck, goodCheck, andThen}
+use Rattle.calls.specs.Answers.{answered}
 use Rattle.calls.specs.Results.{ifClear}
 use Rattle.calls.specs.declared.Drive.{Drive}
 use Rattle.calls.specs.declared.Refusal.{Refusal}
-use Rattle.calls.specs.declared.Refusal.the-variants.{Midround, Damaged, Output, Block}
+use Rattle.calls.specs.declared.Refusal.the-variants.{Capacity, Short, Position, Midround, Damaged, Output, Block}
 use Rattle.calls.specs.declared.Check.{Check}
 use Rattle.calls.specs.declared.Check.the-variants.{Clear, Refused}
 use Rattle.calls.proofs.Laws.{first-next, first-clear, then-clear, Passed, passed}
-use Rattle.sheets.specs.Sheet.{blocks, capacityIn, leavesIn, laid}
-use Rattle.sheets.specs.Results.{saveMay, saveCheck, writtenCheck, blockCheck, startCheck, readCheck, loadedBoard}
+use Rattle.sheets.specs.Sheet.{blocks, capacityIn}
+use Rattle.sheets.specs.Forms.{Form, savingBy, savingAnswer, sizeOf, roomCheck, savingCheck, blockCheck, startCheck, heldCheck, readingCheck, loadedBoardAs}
+use Rattle.sheets.specs.Results.{saveMay, saveCheck, writtenCheck, pieceForm, savePiecesMay}
 
-block-clear : (b : Bool) → blockCheck b ≡ Clear → b ≡ false
+pub block-clear : (b : Bool) → blockCheck b ≡ Clear → b ≡ false
 unfolding blockCheck
 block-clear true e = let z : _≡_ {A = ℕ} 0 1 = cc in absurd (omega arith)
 block-clear false e = refl
 
-clear-block : blockCheck false ≡ Clear
+pub clear-block : blockCheck false ≡ Clear
 unfolding blockCheck
 clear-block = refl
 
-refused-block : blockCheck true ≡ Refused Block
+pub refused-block : blockCheck true ≡ Refused Block
 unfolding blockCheck
 refused-block = refl
+
+-- an answer by what the checks find, in number and values
+pub saving-told : (k : Check) (n : ℕ) → savingAnswer (savingBy k n) ≡ answered k (n ∷ [])
+saving-told Clear n = refl
+saving-told (Refused r) n = refl
 
 -- the test that a board is good, as a check
 module _ (C : ℕ) (B : List ℕ) where
@@ -59,7 +66,7 @@ module _ (C : ℕ) (B : List ℕ) (n : ℕ) where
 
 module _ (d : Drive) (B : List ℕ) (n : ℕ) where
   pub save-parts : saveCheck d B n ≡ andThen (slotCheck d B) (refuseIf (not (eqb (d .position) 1)) Midround (writtenCheck (d .capacity) B n))
-  unfolding saveCheck slotCheck writtenCheck
+  unfolding savingCheck slotCheck writtenCheck
   save-parts = first-next slotMay (Midround ∷ Damaged ∷ Output ∷ []) (askedOutput d B n (512 * blocks (d .capacity)))
 
   -- what is known once save's checks find nothing
@@ -67,19 +74,43 @@ module _ (d : Drive) (B : List ℕ) (n : ℕ) where
   save-slot e = first-clear (slotCheck d B) _ (sym save-parts ∙ e)
 
   pub save-good : saveCheck d B n ≡ Clear → good (d .capacity) B ≡ true
-  unfolding saveCheck Passed applies
+  unfolding savingCheck Passed applies
   save-good e = not-false (good (d .capacity) B) (passed saveMay (askedOutput d B n (512 * blocks (d .capacity))) e .1 .1 .1 .1 .0)
 
   pub save-room : saveCheck d B n ≡ Clear → 512 * blocks (d .capacity) ≤ n
-  unfolding saveCheck Passed applies
+  unfolding savingCheck Passed applies
   save-room e = ltb-false n (512 * blocks (d .capacity)) (passed saveMay (askedOutput d B n (512 * blocks (d .capacity))) e .1 .1 .1 .1 .1 .0)
 
+  pub save-start : saveCheck d B n ≡ Clear → d .position ≡ 1
+  unfolding savingCheck Passed applies
+  save-start e = eqb-true (d .position) 1 (not-false (eqb (d .position) 1) (passed saveMay (askedOutput d B n (512 * blocks (d .capacity))) e .1 .1 .1 .0))
+
+-- save of the piece form, one part after the other
+module _ (d : Drive) (B : List ℕ) (n : ℕ) where
+  pub entry-parts : savingCheck pieceForm d B n ≡ andThen (andThen (slotCheck d B) (goodCheck (d .capacity) B)) (roomCheck n (sizeOf pieceForm d B))
+  unfolding savingCheck slotCheck goodCheck
+  entry-parts =
+      first-next (Capacity ∷ Short ∷ Position ∷ Damaged ∷ []) (Output ∷ []) (askedOutput d B n (sizeOf pieceForm d B))
+      ∙ ap (λ (k : Check). andThen k (roomCheck n (sizeOf pieceForm d B)))
+      (first-next slotMay (Damaged ∷ []) (askedOutput d B n (sizeOf pieceForm d B)))
+
+  pub entry-slot : savingCheck pieceForm d B n ≡ Clear → slotCheck d B ≡ Clear
+  entry-slot e = first-clear (slotCheck d B) (goodCheck (d .capacity) B) (first-clear (andThen (slotCheck d B) (goodCheck (d .capacity) B)) _ (sym entry-parts ∙ e))
+
+  pub entry-good : savingCheck pieceForm d B n ≡ Clear → good (d .capacity) B ≡ true
+  unfolding savingCheck Passed applies
+  entry-good e = not-false (good (d .capacity) B) (passed savePiecesMay (askedOutput d B n (sizeOf pieceForm d B)) e .1 .1 .1 .0)
+
+  pub entry-room : savingCheck pieceForm d B n ≡ Clear → sizeOf pieceForm d B ≤ n
+  unfolding savingCheck Passed applies
+  entry-room e = ltb-false n (sizeOf pieceForm d B) (passed savePiecesMay (askedOutput d B n (sizeOf pieceForm d B)) e .1 .1 .1 .1 .0)
+
 -- a sheet that read accepts
-pub record Readable (s B : List ℕ) : Type 0 where
+pub record Readable (F : Form) (s B : List ℕ) : Type 0 where
   pub long : 512 ≤ length s
   pub fitting : openCheck (capacityIn s) B ≡ Clear
-  pub keeps : laid (capacityIn s) s ≡ true
-  pub good : goodCheck (capacityIn s) (leavesIn (capacityIn s) s) ≡ Clear
+  pub keeps : F .laid (capacityIn s) s ≡ true
+  pub good : goodCheck (capacityIn s) (F .leaves (capacityIn s) s) ≡ Clear
 
 module _ (s B : List ℕ) where
   pub start-long : startCheck s B ≡ Clear → 512 ≤ length s
@@ -99,44 +130,50 @@ module _ (s B : List ℕ) where
   unfolding startCheck
   start-next h = rw (le-ltb (length s) 512 h, clear-block)
 
-  pub clear-read : readCheck s B ≡ Clear → Readable s B
-  unfolding readCheck
+module _ (F : Form) (s B : List ℕ) where
+  pub clear-read : readingCheck F s B ≡ Clear → Readable F s B
+  unfolding readingCheck
   clear-read e =
       let C = capacityIn s in
-      let last = goodCheck C (leavesIn C s) in
-      let later = andThen (blockCheck (not (laid C s))) last in
+      let last = goodCheck C (F .leaves C s) in
+      let later = andThen (blockCheck (not (F .laid C s))) last in
       let start = first-clear (startCheck s B) later e in
       let rest = then-clear (startCheck s B) later e in
       record {
-        long = start-long start;
-        fitting = start-open start;
-        keeps = not-false (laid C s) (block-clear (not (laid C s)) (first-clear (blockCheck (not (laid C s))) last rest));
-        good = then-clear (blockCheck (not (laid C s))) last rest;
+        long = start-long s B start;
+        fitting = start-open s B start;
+        keeps = not-false (F .laid C s) (block-clear (not (F .laid C s)) (first-clear (blockCheck (not (F .laid C s))) last rest));
+        good = then-clear (blockCheck (not (F .laid C s))) last rest;
       }
 
-  pub read-clear : Readable s B → readCheck s B ≡ Clear
-  unfolding readCheck
-  read-clear r = rw (start-next (r .long), r .fitting, r .keeps, clear-block) (r .good)
+  pub read-clear : Readable F s B → readingCheck F s B ≡ Clear
+  unfolding readingCheck
+  read-clear r = rw (start-next s B (r .long), r .fitting, r .keeps, clear-block) (r .good)
 
   -- read, one check after the other
   module _ (r : Check) (start : r ≡ startCheck s B) where
-    pub read-unfit : (x : Refusal) → r ≡ Refused x → Refused x ≡ readCheck s B
-    unfolding readCheck
+    pub read-unfit : (x : Refusal) → r ≡ Refused x → Refused x ≡ readingCheck F s B
+    unfolding readingCheck
     read-unfit x e = rw (← start, e)
 
-    module _ (clear : r ≡ Clear) (c : ℕ) (is : c ≡ capacityIn s) (l : Bool) (layout : l ≡ laid c s) where
-      pub read-broken : l ≡ false → Refused Block ≡ readCheck s B
-      unfolding readCheck
+    -- what the sheet holds is looked at next
+    pub read-rest : (g : Check) (c : ℕ) → r ≡ Clear → c ≡ capacityIn s → g ≡ heldCheck F c s → g ≡ readingCheck F s B
+    unfolding readingCheck
+    read-rest g c clear is h = rw (← start, clear, ← is) h
+
+    module _ (clear : r ≡ Clear) (c : ℕ) (is : c ≡ capacityIn s) (l : Bool) (layout : l ≡ F .laid c s) where
+      pub read-broken : l ≡ false → Refused Block ≡ readingCheck F s B
+      unfolding readingCheck
       read-broken e = rw (← start, clear, ← is, ← layout, e, refused-block)
 
-      pub read-tested : (g : Check) → l ≡ true → g ≡ goodCheck c (leavesIn c s) → g ≡ readCheck s B
-      unfolding readCheck
+      pub read-tested : (g : Check) → l ≡ true → g ≡ goodCheck c (F .leaves c s) → g ≡ readingCheck F s B
+      unfolding readingCheck
       read-tested g e h = rw (← start, clear, ← is, ← layout, e, clear-block) h
 
   -- and what is then in the lent board
-  pub read-kept : (x : Refusal) → Refused x ≡ readCheck s B → (Refused x ≡ readCheck s B) × (B ≡ loadedBoard s B)
+  pub read-kept : (x : Refusal) → Refused x ≡ readingCheck F s B → (Refused x ≡ readingCheck F s B) × (B ≡ loadedBoardAs F s B)
   read-kept x e = (e, rw (← e) refl)
 
-  pub read-set : (c : ℕ) (g : Check) (E : List ℕ) → c ≡ capacityIn s → g ≡ readCheck s B → E ≡ ifClear g (leavesIn c s ++ drop c B) B
-      → (g ≡ readCheck s B) × (E ≡ loadedBoard s B)
+  pub read-set : (c : ℕ) (g : Check) (E : List ℕ) → c ≡ capacityIn s → g ≡ readingCheck F s B → E ≡ ifClear g (F .leaves c s ++ drop c B) B
+      → (g ≡ readingCheck F s B) × (E ≡ loadedBoardAs F s B)
   read-set c g E is h e = (h, rw (← is, ← h) e)

@@ -1,40 +1,51 @@
--- The laws of sheets that upper crates and docs cite: what the test of read says, both halves of demand 2, that no second answer keeps a promise,
--- that a refusal leaves everything as it was, and that a call answers only what it may. Assumes nothing.
+-- The laws of sheets that upper crates and docs cite: what the test of read says, both halves of demand 2 for each form, what each reader answers to the
+-- other's sheets, that a conversion there and back gives the same bytes, that no second answer keeps a promise, that a refusal leaves everything as it was,
+-- and that a call answers only what it may. Assumes nothing.
 use mathlib.Core.Path.{_≡_, refl, sym, ap, subst, _∙_}
-use mathlib.Core.Bool.{true, not}
+use mathlib.Core.Bool.{Bool, true, false, not}
 use mathlib.Core.List.{List, [], _∷_, _++_}
-use Prim.Native.Nat.{ℕ, _+_, _-_, _*_, _^_, _≤_, _<_}
+use Prim.Native.Nat.{ℕ, suc, _+_, _-_, _*_, _/_, _^_, _≤_, _<_}
 use native.Mathlib.Omega.{arith}
 use native.Mathlib.Decide.{decLt}
-use lib.ListN.{length, getD, take, drop, length-append, List·getD-append, List·getD-eq-default}
-use lib.Seq.{getD-take, take-at, take-all}
-use lib.Dec.{ltb}
+use lib.Dec.{eqb}
+use lib.ListN.{length, getD, take, drop, List·getD-eq-default}
 use borrow.Author.Tests.{le-ltb}
 use Rattle.pieces.specs.Board.{good}
-use Rattle.pieces.proofs.Laws.{good-same}
+use Rattle.pieces.specs.Listing.{namedPieces}
 use Rattle.sequences.specs.Board.{digits}
 use Rattle.sequences.proofs.Laws.{digits-lt}
 use Rattle.calls.specs.Records.{driveAt}
-use Rattle.calls.specs.Refusals.{Asked, firstOf, andThen, numbers, among, asked, askedOpen, askedOutput, openMay, openCheck, goodCheck, positionCheck}
+use Rattle.calls.specs.Refusals.{andThen, zeroOr, numbers, among, positionCheck}
 use Rattle.calls.specs.declared.Drive.{Drive}
-use Rattle.calls.specs.declared.Refusal.{Refusal}
-use Rattle.calls.specs.declared.Refusal.the-variants.{Damaged, Block}
+use Rattle.calls.specs.declared.Refusal.the-variants.{Midround, Block}
 use Rattle.calls.specs.declared.Check.{Check}
 use Rattle.calls.specs.declared.Check.the-variants.{Clear, Refused}
-use Rattle.calls.proofs.Laws.{unique, Refuses, refuses, refusal, may, first-among, Within, within-among, first-within, then-within, covers, part-within, ascending, Sized, open-clear, open-sized, slot-sized, slot-parts}
+use Rattle.calls.specs.Results.{ifClear}
+use Rattle.calls.proofs.Laws.{Refuses, if-within, covers, ascending, Sized, open-clear, open-sized, slot-sized, slot-parts}
 use Rattle.sheets.specs.declared.Saved.{Saved}
+use Rattle.sheets.specs.declared.Saving.{Saving}
 use Rattle.sheets.specs.declared.Saving.the-variants as saving
 use Rattle.sheets.specs.declared.Loaded.{Loaded}
 use Rattle.sheets.specs.declared.Loading.the-variants as loading
-use Rattle.sheets.specs.Blocks.{Bytes, Words, listed, bytesOf, block, stack}
+use Rattle.sheets.specs.Blocks.{Bytes, Words, listed, bytesOf, numberAt, block, stack}
 use Rattle.sheets.specs.Sheet.{blocks, leafOf, page, sheet, capacityIn, place, leafIn, leavesIn, laid, Layout}
-use Rattle.sheets.specs.Results.{saveMay, saveCheck, savingBy, saved, savedAnswer, savedOutput, savingAnswer, readMay, askedSheet, blockCheck, startCheck, readCheck, loadingBy, loaded, loadedAnswer, loadedBoard, loadingAnswer}
-use Rattle.sheets.specs.Promises.{Saves, Loads}
+use Rattle.sheets.specs.Entries.{entryBlocks, entryPage, entryBytes, entrySheet, positionIn, spelled, keeps}
+use Rattle.sheets.specs.Forms.{Form, savingAnswer, readMay, startCheck, heldCheck, readingCheck, savedAs, savedAnswerAs, savedOutputAs, loadedAs, loadedAnswerAs, loadedBoardAs, loadingAnswer}
+use Rattle.sheets.specs.Results.{leafForm, pieceForm, saveMay, savePiecesMay, saveCheck, saved, savedAnswer, savedOutput, readCheck, loaded, loadedAnswer, loadedBoard}
+use Rattle.sheets.specs.Promises.{Saves, Loads, SavesPieces, LoadsPieces}
+use Rattle.sheets.specs.Conversions.{atStart, anywhere, converted, convertedOutput, ToPieces, ToLeaves, toPiecesMay, toLeavesMay}
 use Rattle.sheets.proofs.Lists.{listed-at}
 use Rattle.sheets.proofs.Numbers.{number-small}
 use Rattle.sheets.proofs.Layouts.{sheet-length, sheet-layout, sheet-leaves, layout-sheet, laid-layout, layout-laid}
-use Rattle.sheets.proofs.Stores.{leaves-length, leaves-taken}
-use Rattle.sheets.proofs.Checked.{good-check, check-good, Readable, read-clear, clear-read, written-parts, save-parts, save-slot, save-good}
+use Rattle.sheets.proofs.Stores.{leaves-length}
+use Rattle.sheets.proofs.Checked.{good-check, refused-block, written-parts, save-parts, save-slot, save-good, save-start, save-room, start-open, clear-read}
+use Rattle.sheets.proofs.Answers.{saves-unique, saves-refused, saves-answers, saves-may, loads-unique, loads-refused, loads-answers, loads-may, converts-unique, converts-refused, converts-may}
+use Rattle.sheets.proofs.Trips.{Exact, saved-reads-back, saved-at, accepted-sized, accepted-good, only-such-sheets}
+use Rattle.sheets.proofs.Restored.{entries-exact, kept-parts}
+use Rattle.sheets.proofs.Faults.{spelled-words}
+use Rattle.sheets.proofs.Converting.{there-and-back}
+-- The test of read of the piece form passes just the bytes without a fault of document 02's list, and what save writes has none.
+pub use Rattle.sheets.proofs.Faults.{keeps-entered, entered-keeps, sheet-entered}
 
 -- what passes the checks of save
 position-first : (C : ℕ) → 0 < C → positionCheck C 1 ≡ Clear
@@ -52,18 +63,18 @@ unfolding sheet page leafOf
 sheet-taken C B D e =
     ap (λ (L : List ℕ). bytesOf (stack (λ (b : ℕ). block b C (listed (λ (i : ℕ). getD L i 0) (253 * b) 253)) 0 (blocks C))) e
 
-saving-done : (k : Check) (m n : ℕ) → savingBy k m ≡ saving.Done n → (k ≡ Clear) × (m ≡ n)
-saving-done Clear m n e = (refl, cc)
-saving-done (Refused r) m n e = absurd (let z : _≡_ {A = ℕ} 0 1 = cc in omega arith)
-
-loading-done : (k : Check) → loadingBy k ≡ loading.Done → k ≡ Clear
-loading-done Clear e = refl
-loading-done (Refused r) e = absurd (let z : _≡_ {A = ℕ} 0 1 = cc in omega arith)
-
 -- the capacity that a sheet gives
 sheet-capacity : (C : ℕ) (s : List ℕ) → 0 < C → Layout C s → capacityIn s ≡ C
 unfolding capacityIn blocks
 sheet-capacity C s pos l = l .capacity 0 (omega arith)
+
+sheet-first : (C : ℕ) (s : List ℕ) → 0 < C → Layout C s → numberAt s 0 ≡ 0
+unfolding blocks
+sheet-first C s pos l = l .number 0 (omega arith)
+
+not-laid : (b : Bool) → (b ≡ true → ⊥) → b ≡ false
+not-laid true h = absurd (h refl)
+not-laid false h = refl
 
 -- C = 253 needs one block, C = 254 two, C = 4,095 seventeen.
 pub blocks-worked : (blocks 253 ≡ 1) × (blocks 254 ≡ 2) × (blocks 4095 ≡ 17)
@@ -87,146 +98,227 @@ module _ (C : ℕ) (s : List ℕ) (bytes : Bytes s) where
   pub sheet-laid : C < 65536 → s ≡ sheet C (leavesIn C s) → laid C s ≡ true
   sheet-laid few e = subst (λ (q : List ℕ). laid C q ≡ true) (sym e) (layout-laid C (sheet C (leavesIn C s)) (sheet-layout C (leavesIn C s) few leaves-words))
 
+-- The leaf form is exact, and saved at p = 1 alone.
+pub leaves-exact : Exact leafForm (λ C p. p ≡ 1)
+unfolding blocks
+leaves-exact = record {
+  asks = λ d B n e. (slot-sized d B (save-slot d B n e), save-good d B n e, save-start d B n e, save-room d B n e);
+  lets = λ C p B n s g at room. rw at (save-first C B n s g room);
+  long = λ C p B. sheet-length C B;
+  least = λ C B pos. omega arith;
+  taken = λ C p B D. sheet-taken C B D;
+  capacity = λ C p B s w at. sheet-capacity C (sheet C B) (s .some) (sheet-layout C B (omega (arith, s .few)) w);
+  keeps = λ C p B s w at. layout-laid C (sheet C B) (sheet-layout C B (omega (arith, s .few)) w);
+  position = λ C p B s w at. sym at;
+  leaves = λ C p B s w at. sheet-leaves C B (omega (arith, s .few)) w (s .long);
+  only = λ C s bytes h. laid-sheet C s bytes h;
+  at = λ C s h. refl;
+  spelled = λ C s. leaves-length C s;
+}
+
 -- Demand 2: what save writes reads back as the same board and capacity. B is the board saved, of u16 leaves, O the output and L the board lent to read.
 module _ (d : Drive) (B O L : List ℕ) (n : ℕ) (words : Words B) (done : saved d B O .answer ≡ saving.Done n) (room : d .capacity ≤ length L) where
-  clear : saveCheck d B (length O) ≡ Clear
-  clear = saving-done (saveCheck d B (length O)) (512 * blocks (d .capacity)) n done .0
-
-  sized : Sized (d .capacity) B
-  sized = slot-sized d B (save-slot d B (length O) clear)
-
-  -- the bytes that save says it wrote
-  written : take n (savedOutput d B O) ≡ sheet (d .capacity) B
-  written =
-      let e = saving-done (saveCheck d B (length O)) (512 * blocks (d .capacity)) n done .1 in
-      rw clear (take-at (sheet (d .capacity) B) (drop (512 * blocks (d .capacity)) O) n (sheet-length (d .capacity) B ∙ e))
-
-  layout : Layout (d .capacity) (sheet (d .capacity) B)
-  layout = sheet-layout (d .capacity) B (omega (arith, sized .few)) words
-
-  capacity : capacityIn (sheet (d .capacity) B) ≡ d .capacity
-  capacity = sheet-capacity (d .capacity) (sheet (d .capacity) B) (sized .some) layout
-
-  leaves : leavesIn (d .capacity) (sheet (d .capacity) B) ≡ take (d .capacity) B
-  leaves = sheet-leaves (d .capacity) B (omega (arith, sized .few)) words (sized .long)
-
-  sound : good (d .capacity) (take (d .capacity) B) ≡ true
-  sound =
-      good-same (d .capacity) B (take (d .capacity) B) (λ i h. sym (getD-take (d .capacity) B i 0 h))
-      (save-good d B (length O) clear)
-
-  readable : Readable (sheet (d .capacity) B) L
-  unfolding blocks
-  readable = record {
-    long = omega (arith, sheet-length (d .capacity) B, sized .some);
-    fitting = rw capacity (open-sized (d .capacity) L (record { some = sized .some; few = sized .few; long = room }));
-    keeps = rw capacity (layout-laid (d .capacity) (sheet (d .capacity) B) layout);
-    good = rw (capacity, leaves) (good-check (d .capacity) (take (d .capacity) B) sound);
-  }
-
   pub demand-2-saved-reads-back :
       (loaded (take n (savedOutput d B O)) L ≡ record { drive = driveAt (d .capacity) 1; answer = loading.Done })
       × (loadedBoard (take n (savedOutput d B O)) L ≡ take (d .capacity) B ++ drop (d .capacity) L)
   demand-2-saved-reads-back =
-      rw (written, read-clear (sheet (d .capacity) B) L readable, capacity) (refl, rw leaves)
+      let e = saved-reads-back leafForm (λ C p. p ≡ 1) leaves-exact d B O L n words done room in
+      let at = saved-at leafForm (λ C p. p ≡ 1) leaves-exact d B O L n words done room in
+      (e .0 ∙ rw at refl, e .1)
 
 -- What read accepts is a board that passes the checks: long enough, and good. L is the board lent to read.
 module _ (s L : List ℕ) (accepted : readCheck s L ≡ Clear) where
-  lent : Sized (capacityIn s) L
-  lent = open-clear (capacityIn s) L (clear-read s L accepted .fitting)
-
   pub read-sized : Sized (capacityIn s) (leavesIn (capacityIn s) s ++ drop (capacityIn s) L)
-  read-sized = record {
-    some = lent .some;
-    few = lent .few;
-    long = rw (length-append (leavesIn (capacityIn s) s) (drop (capacityIn s) L), leaves-length (capacityIn s) s) (omega arith);
-  }
+  read-sized = accepted-sized leafForm (λ C p. p ≡ 1) leaves-exact s L accepted
 
   pub read-good : good (capacityIn s) (leavesIn (capacityIn s) s ++ drop (capacityIn s) L) ≡ true
-  read-good =
-      good-same (capacityIn s) (leavesIn (capacityIn s) s) (leavesIn (capacityIn s) s ++ drop (capacityIn s) L)
-      (λ i h. sym (List·getD-append (leavesIn (capacityIn s) s) (drop (capacityIn s) L) 0 i (omega (arith, leaves-length (capacityIn s) s))))
-      (check-good (capacityIn s) (leavesIn (capacityIn s) s) (clear-read s L accepted .good))
+  read-good = accepted-good leafForm (λ C p. p ≡ 1) leaves-exact s L accepted
 
 -- Demand 2: whatever bytes read accepts are the very bytes that save writes for the board that it sets. L is the board lent to read, O an output with room.
 module _ (s L O : List ℕ) (bytes : Bytes s) (done : loaded s L .answer ≡ loading.Done) (room : length s ≤ length O) where
-  accepted : readCheck s L ≡ Clear
-  accepted = loading-done (readCheck s L) done
-
-  accepts : Readable s L
-  accepts = clear-read s L accepted
-
-  keeps : Layout (capacityIn s) s
-  keeps = laid-layout (capacityIn s) s (accepts .keeps)
-
-  -- the board that read sets
-  board : List ℕ
-  board = leavesIn (capacityIn s) s ++ drop (capacityIn s) L
-
-  -- its sheet is what was read
-  same : sheet (capacityIn s) board ≡ s
-  unfolding board
-  same =
-      let leaves = leavesIn (capacityIn s) s in
-      sheet-taken (capacityIn s) board leaves
-      (leaves-taken (capacityIn s) s board (drop (capacityIn s) L) refl ∙ sym (take-all (capacityIn s) leaves (omega (arith, leaves-length (capacityIn s) s))))
-      ∙ sym (layout-sheet (capacityIn s) s bytes keeps)
-
-  saves : saveCheck (driveAt (capacityIn s) 1) board (length O) ≡ Clear
-  unfolding board
-  saves = save-first (capacityIn s) board (length O) (read-sized s L accepted) (read-good s L accepted) (omega (arith, keeps .long))
-
   pub demand-2-only-such-sheets :
       (saved (loaded s L .drive) (loadedBoard s L) O ≡ record { drive = loaded s L .drive; answer = saving.Done (length s) })
       × (savedOutput (loaded s L .drive) (loadedBoard s L) O ≡ s ++ drop (length s) O)
-  unfolding board
-  demand-2-only-such-sheets =
-      rw (accepted, saves, same, keeps .long) (refl, refl)
+  demand-2-only-such-sheets = only-such-sheets leafForm (λ C p. p ≡ 1) leaves-exact s L O bytes done room
 
--- The list of save goes up, so that the first refusal of it that applies is the lowest (`first-lowest` of calls).
+-- ---- the piece form
+
+-- Demand 2: what save_pieces writes reads back as the same board, capacity and position.
+module _ (d : Drive) (B O L : List ℕ) (n : ℕ) (words : Words B) (done : savedAs pieceForm d B O .answer ≡ saving.Done n) (room : d .capacity ≤ length L) where
+  pub demand-2-pieces-read-back :
+      (loadedAs pieceForm (take n (savedOutputAs pieceForm d B O)) L ≡ record { drive = driveAt (d .capacity) (d .position); answer = loading.Done })
+      × (loadedBoardAs pieceForm (take n (savedOutputAs pieceForm d B O)) L ≡ take (d .capacity) B ++ drop (d .capacity) L)
+  demand-2-pieces-read-back = saved-reads-back pieceForm (λ C p. positionCheck C p ≡ Clear) entries-exact d B O L n words done room
+
+-- Demand 2: whatever bytes read_pieces accepts are the very bytes that save_pieces writes for the board and the position that it sets.
+module _ (s L O : List ℕ) (bytes : Bytes s) (done : loadedAs pieceForm s L .answer ≡ loading.Done) (room : length s ≤ length O) where
+  pub demand-2-only-such-pieces :
+      (savedAs pieceForm (loadedAs pieceForm s L .drive) (loadedBoardAs pieceForm s L) O ≡ record { drive = loadedAs pieceForm s L .drive; answer = saving.Done (length s) })
+      × (savedOutputAs pieceForm (loadedAs pieceForm s L .drive) (loadedBoardAs pieceForm s L) O ≡ s ++ drop (length s) O)
+  demand-2-only-such-pieces = only-such-sheets pieceForm (λ C p. positionCheck C p ≡ Clear) entries-exact s L O bytes done room
+
+-- What read_pieces accepts is a board that passes the checks, at a position of it. L is the board lent to read.
+module _ (s L : List ℕ) (accepted : readingCheck pieceForm s L ≡ Clear) where
+  pub read-pieces-sized : Sized (capacityIn s) (spelled (capacityIn s) s ++ drop (capacityIn s) L)
+  read-pieces-sized = accepted-sized pieceForm (λ C p. positionCheck C p ≡ Clear) entries-exact s L accepted
+
+  pub read-pieces-good : good (capacityIn s) (spelled (capacityIn s) s ++ drop (capacityIn s) L) ≡ true
+  read-pieces-good = accepted-good pieceForm (λ C p. positionCheck C p ≡ Clear) entries-exact s L accepted
+
+  pub read-pieces-position : positionCheck (capacityIn s) (positionIn s) ≡ Clear
+  read-pieces-position = kept-parts (capacityIn s) s (clear-read pieceForm s L accepted .keeps) .0
+
+-- ---- each reader and the other's sheets
+
+-- What a reader answers to bytes that do not keep its layout: 12 after its earlier checks, and the board as it was.
+module _ (F : Form) (s L : List ℕ) (other : 0 < capacityIn s → F .laid (capacityIn s) s ≡ false) where
+  pub other-check : readingCheck F s L ≡ andThen (startCheck s L) (Refused Block)
+  unfolding readingCheck
+  other-check = by-check (startCheck s L) refl
+    where
+      by-check : (k : Check) → startCheck s L ≡ k → andThen k (heldCheck F (capacityIn s) s) ≡ andThen k (Refused Block)
+      by-check Clear e = rw (other (open-clear (capacityIn s) L (start-open s L e) .some), refused-block) refl
+      by-check (Refused r) e = refl
+
+  pub other-board : loadedBoardAs F s L ≡ L
+  other-board = rw other-check (never (startCheck s L))
+    where
+      never : (k : Check) → ifClear (andThen k (Refused Block)) (F .leaves (capacityIn s) s ++ drop (capacityIn s) L) L ≡ L
+      never Clear = refl
+      never (Refused r) = refl
+
+-- block 0 of a sheet of pieces
+entry-zero : (C p : ℕ) (B : List ℕ) → numberAt (entrySheet C p B) 0 ≡ 32768
+unfolding entrySheet entryBytes entryPage entryBlocks stack block bytesOf numberAt
+entry-zero C p B =
+    let e : (length (namedPieces C B) - 1) / 252 + 1 ≡ suc ((length (namedPieces C B) - 1) / 252) = omega arith in
+    rw e refl
+
+-- An old reader answers 12 to any sheet of pieces that gets past its earlier checks, and never shows a board.
+pub old-reader : (C p : ℕ) (B L : List ℕ) → let s = entrySheet C p B in
+    (readCheck s L ≡ andThen (startCheck s L) (Refused Block)) × (loadedBoard s L ≡ L)
+old-reader C p B L =
+    let s = entrySheet C p B in
+    let other : 0 < capacityIn s → laid (capacityIn s) s ≡ false =
+    λ h. not-laid (laid (capacityIn s) s) (λ t. let z = sheet-first (capacityIn s) s h (laid-layout (capacityIn s) s t) in omega (arith, z, entry-zero C p B))
+    in
+    (other-check leafForm s L other, other-board leafForm s L other)
+
+-- And the new reader the same to any sheet of leaves.
+pub new-reader : (C : ℕ) (B L : List ℕ) → 0 < C → C < 65536 → Words B → let s = sheet C B in
+    (readingCheck pieceForm s L ≡ andThen (startCheck s L) (Refused Block)) × (loadedBoardAs pieceForm s L ≡ L)
+new-reader C B L some few words =
+    let s = sheet C B in
+    let first = sheet-first C s some (sheet-layout C B few words) in
+    let other : 0 < capacityIn s → keeps (capacityIn s) s ≡ false =
+    λ h. not-laid (keeps (capacityIn s) s) (λ t.
+    let e = kept-parts (capacityIn s) s t .1 in
+    omega (arith, first, ap (λ (q : List ℕ). numberAt q 0) e, entry-zero (capacityIn s) (positionIn s) (spelled (capacityIn s) s)))
+    in
+    (other-check pieceForm s L other, other-board pieceForm s L other)
+
+-- ---- conversions
+
+-- A sheet of leaves that is written as one of pieces is written back as the very same sheet,
+module _ (s O P : List ℕ) (n : ℕ) (bytes : Bytes s) (done : converted leafForm pieceForm anywhere s O ≡ saving.Done n) (room : length s ≤ length P) where
+  pub leaves-there-and-back :
+      (converted pieceForm leafForm atStart (take n (convertedOutput leafForm pieceForm anywhere s O)) P ≡ saving.Done (length s))
+      × (convertedOutput pieceForm leafForm atStart (take n (convertedOutput leafForm pieceForm anywhere s O)) P ≡ s ++ drop (length s) P)
+  leaves-there-and-back =
+      there-and-back leafForm pieceForm (λ C p. p ≡ 1) (λ C p. positionCheck C p ≡ Clear) leaves-exact entries-exact anywhere atStart s O P n bytes
+      (leaves-words (capacityIn s) s bytes) done (λ some at. position-first (capacityIn s) some) refl room
+
+-- and so is one of pieces saved at p = 1 that is written as one of leaves.
+module _ (s O P : List ℕ) (n : ℕ) (bytes : Bytes s) (first : positionIn s ≡ 1) (done : converted pieceForm leafForm atStart s O ≡ saving.Done n) (room : length s ≤ length P) where
+  pub pieces-there-and-back :
+      (converted leafForm pieceForm anywhere (take n (convertedOutput pieceForm leafForm atStart s O)) P ≡ saving.Done (length s))
+      × (convertedOutput leafForm pieceForm anywhere (take n (convertedOutput pieceForm leafForm atStart s O)) P ≡ s ++ drop (length s) P)
+  pieces-there-and-back =
+      there-and-back pieceForm leafForm (λ C p. positionCheck C p ≡ Clear) (λ C p. p ≡ 1) entries-exact leaves-exact atStart anywhere s O P n bytes
+      (spelled-words (capacityIn s) s bytes) done (λ some at. first) refl room
+
+-- ---- answers
+
+-- The lists of save go up, so that the first refusal of one that applies is the lowest (`first-lowest` of calls).
 pub save-ascending : ascending 0 saveMay ≡ true
 unfolding ascending
 save-ascending = refl
 
+pub save-pieces-ascending : ascending 0 savePiecesMay ≡ true
+unfolding ascending
+save-pieces-ascending = refl
+
 -- No second answer fits, a refusal leaves everything as it was, and a call answers only what it may.
 module _ (d : Drive) (B O : List ℕ) where
   pub save-unique : {r q : Saved} {E F : List ℕ} → Saves d B O r E → Saves d B O q F → (r ≡ q) × (E ≡ F)
-  save-unique h k = (unique (h .0) (k .0), unique (h .2) (k .2))
+  save-unique = saves-unique leafForm d B O
 
   pub save-refused : {r : Saved} {E : List ℕ} → Saves d B O r E → Refuses (savingAnswer (r .answer))
       → (r .drive ≡ d) × (savingAnswer (r .answer) .values ≡ 0 ∷ []) × (E ≡ O)
-  save-refused h f = rw (h .0, h .2, refusal (saveCheck d B (length O)) (refuses (h .1) f) .1) (refl, refl, refl)
+  save-refused = saves-refused leafForm d B O
 
   pub save-answers : among (savedAnswer d B O .number) saveMay ≡ true
-  unfolding saveCheck
-  save-answers = first-among saveMay (askedOutput d B (length O) (512 * blocks (d .capacity)))
+  save-answers = saves-answers leafForm d B O
 
   pub save-may : {r : Saved} {E : List ℕ} → Saves d B O r E → among (savingAnswer (r .answer) .number) saveMay ≡ true
-  save-may h = may saveMay (h .1) save-answers
+  save-may = saves-may leafForm d B O
 
--- a part of the checks of read keeps to its list
-part : (rs : List Refusal) (a : Asked) → covers (numbers readMay) (numbers rs) ≡ true → Within (numbers readMay) (firstOf rs a)
-part rs a c = part-within (numbers readMay) (numbers rs) (firstOf rs a) c (first-within rs a)
+  pub save-pieces-unique : {r q : Saved} {E F : List ℕ} → SavesPieces d B O r E → SavesPieces d B O q F → (r ≡ q) × (E ≡ F)
+  save-pieces-unique = saves-unique pieceForm d B O
+
+  pub save-pieces-refused : {r : Saved} {E : List ℕ} → SavesPieces d B O r E → Refuses (savingAnswer (r .answer))
+      → (r .drive ≡ d) × (savingAnswer (r .answer) .values ≡ 0 ∷ []) × (E ≡ O)
+  save-pieces-refused = saves-refused pieceForm d B O
+
+  pub save-pieces-answers : among (savedAnswerAs pieceForm d B O .number) savePiecesMay ≡ true
+  save-pieces-answers = saves-answers pieceForm d B O
+
+  pub save-pieces-may : {r : Saved} {E : List ℕ} → SavesPieces d B O r E → among (savingAnswer (r .answer) .number) savePiecesMay ≡ true
+  save-pieces-may = saves-may pieceForm d B O
 
 module _ (s B : List ℕ) where
   pub read-unique : {r q : Loaded} {E F : List ℕ} → Loads s B r E → Loads s B q F → (r ≡ q) × (E ≡ F)
-  read-unique h k = (unique (h .0) (k .0), unique (h .2) (k .2))
+  read-unique = loads-unique leafForm s B
 
   pub read-refused : {r : Loaded} {E : List ℕ} → Loads s B r E → Refuses (loadingAnswer (r .answer)) → (r .drive ≡ driveAt 0 0) × (E ≡ B)
-  read-refused h f = rw (h .0, h .2, refusal (readCheck s B) (refuses (h .1) f) .1) (refl, refl)
+  read-refused = loads-refused leafForm s B
 
   pub read-answers : among (loadedAnswer s B .number) readMay ≡ true
-  unfolding readCheck startCheck blockCheck openCheck goodCheck covers
-  read-answers =
-      let C = capacityIn s in
-      let ns = numbers readMay in
-      let good = goodCheck C (leavesIn C s) in
-      let laying = blockCheck (not (laid C s)) in
-      let lent = openCheck C B in
-      within-among readMay (readCheck s B)
-      (then-within ns (startCheck s B) (andThen laying good)
-      (then-within ns (blockCheck (ltb (length s) 512)) lent (part (Block ∷ []) (askedSheet (ltb (length s) 512)) refl) (part openMay (askedOpen C B) refl))
-      (then-within ns laying good (part (Block ∷ []) (askedSheet (not (laid C s))) refl) (part (Damaged ∷ []) (asked (driveAt C 1) (leavesIn C s)) refl)))
+  read-answers = loads-answers leafForm s B
 
   pub read-may : {r : Loaded} {E : List ℕ} → Loads s B r E → among (loadingAnswer (r .answer) .number) readMay ≡ true
-  read-may h = may readMay (h .1) read-answers
+  read-may = loads-may leafForm s B
+
+  pub read-pieces-unique : {r q : Loaded} {E F : List ℕ} → LoadsPieces s B r E → LoadsPieces s B q F → (r ≡ q) × (E ≡ F)
+  read-pieces-unique = loads-unique pieceForm s B
+
+  pub read-pieces-refused : {r : Loaded} {E : List ℕ} → LoadsPieces s B r E → Refuses (loadingAnswer (r .answer)) → (r .drive ≡ driveAt 0 0) × (E ≡ B)
+  read-pieces-refused = loads-refused pieceForm s B
+
+  pub read-pieces-answers : among (loadedAnswerAs pieceForm s B .number) readMay ≡ true
+  read-pieces-answers = loads-answers pieceForm s B
+
+  pub read-pieces-may : {r : Loaded} {E : List ℕ} → LoadsPieces s B r E → among (loadingAnswer (r .answer) .number) readMay ≡ true
+  read-pieces-may = loads-may pieceForm s B
+
+-- So do conversions; they answer as their read without 2.
+module _ (s O : List ℕ) where
+  pub to-pieces-unique : {r q : Saving} {E F : List ℕ} → ToPieces s O r E → ToPieces s O q F → (r ≡ q) × (E ≡ F)
+  to-pieces-unique = converts-unique leafForm pieceForm anywhere s O
+
+  pub to-pieces-refused : {r : Saving} {E : List ℕ} → ToPieces s O r E → Refuses (savingAnswer r) → (savingAnswer r .values ≡ 0 ∷ []) × (E ≡ O)
+  to-pieces-refused = converts-refused leafForm pieceForm anywhere s O
+
+  pub to-pieces-may : {r : Saving} {E : List ℕ} → ToPieces s O r E → among (savingAnswer r .number) toPiecesMay ≡ true
+  unfolding covers zeroOr
+  to-pieces-may = converts-may leafForm pieceForm anywhere s O toPiecesMay refl refl
+
+  pub to-leaves-unique : {r q : Saving} {E F : List ℕ} → ToLeaves s O r E → ToLeaves s O q F → (r ≡ q) × (E ≡ F)
+  to-leaves-unique = converts-unique pieceForm leafForm atStart s O
+
+  pub to-leaves-refused : {r : Saving} {E : List ℕ} → ToLeaves s O r E → Refuses (savingAnswer r) → (savingAnswer r .values ≡ 0 ∷ []) × (E ≡ O)
+  to-leaves-refused = converts-refused pieceForm leafForm atStart s O
+
+  pub to-leaves-may : {r : Saving} {E : List ℕ} → ToLeaves s O r E → among (savingAnswer r .number) toLeavesMay ≡ true
+  unfolding covers zeroOr
+  to-leaves-may = converts-may pieceForm leafForm atStart s O toLeavesMay refl (if-within (numbers toLeavesMay) (not (eqb (positionIn s) 1)) Midround Clear refl refl)

@@ -1,18 +1,21 @@
-// Sheets of a board: save and read.
+// Sheets of a board, in two forms, one that lists its leaves and one that lists its pieces: save and read, and from one form to the other.
 ghost use mathlib.Core.Path.{_≡_};
 ghost use mathlib.Core.List.{_++_};
-ghost use Prim.Native.Nat.{_*_, _≤_};
+ghost use Prim.Native.Nat.{_*_, _≤_, _<_};
 ghost use lib.ListN.{length, drop, replicate};
-ghost use Rattle.calls.specs.Refusals.{goodCheck};
+ghost use Rattle.calls.specs.Refusals.{goodCheck, slotCheck, andThen};
 ghost use Rattle.calls.specs.Results.{ifClear};
 ghost use Rattle.sheets.specs.Sheet.{blocks, leavesIn};
-ghost use Rattle.sheets.specs.Results.{startCheck, readCheck, loadedBoard, saveCheck, writtenCheck};
-ghost use Rattle.sheets.specs.Promises.{Saves, Loads};
+ghost use Rattle.sheets.specs.Forms.{Puts, Holds, readingCheck, loadedBoardAs};
+ghost use Rattle.sheets.specs.Results.{leafForm, pieceForm, startCheck, readCheck, loadedBoard, saveCheck, writtenCheck};
+ghost use Rattle.sheets.specs.Promises.{Saves, Loads, SavesPieces, LoadsPieces};
+ghost use Rattle.sheets.specs.Conversions.{ToPieces, ToLeaves};
 use calls::Check;
 use calls::Drive;
 use calls::Refusal;
 
 mod blocks;
+mod entries;
 mod leaves;
 
 // The answer of save: how many bytes it wrote.
@@ -155,6 +158,153 @@ pub fn read(sheet: &[u8], board: &mut [u16]) -> Loaded
                 drive: Drive::new(c as u16, 1),
                 answer: Loading::Done,
             }
+        }
+    }
+}
+
+// ---- the form that lists the pieces, saved at any position and read back with it
+
+// The refusals 1 to 3 and 5.
+fn check_standing(drive: Drive, board: &[u16]) -> Check
+    ensures { λ r. ⌜ r ≡ andThen (slotCheck drive (now (board .entry))) (goodCheck (drive .capacity) (now (board .entry))) ⌝ }
+{
+    match drive.check_slot(board) {
+        Check::Refused(r) => Check::Refused(r),
+        Check::Clear => {
+            if pieces::good(board, drive.capacity as usize) {
+                Check::Clear
+            } else {
+                Check::Refused(Refusal::Damaged)
+            }
+        }
+    }
+}
+
+// The refusal 11, and where there is none the sheet of a board's pieces at p, at the start of the output.
+fn put_pieces(board: &[u16], c: usize, p: usize, output: &mut [u8]) -> Saving
+    requires { ⌜ (c ≤ length (now board)) × (c ≤ 4095) × (p < 65536) ⌝ }
+    ensures { λ r. ⌜ Puts pieceForm c p (now (board .entry)) (now (output .entry)) r (now (output .exit)) ⌝ }
+{
+    let mut list = entries::no_list();
+    let n = pieces::listing::list_pieces(board, c, &mut list);
+    let size = 512 * entries::block_count(n);
+    if output.len() < size {
+        return Saving::Refused(Refusal::Output);
+    }
+    entries::write_sheet(&list, n, c, p, output);
+    Saving::Done(size)
+}
+
+// Saves a board at any position: the sheet of its pieces at the start of the output.
+pub fn save_pieces(drive: Drive, board: &[u16], output: &mut [u8]) -> Saved
+    ensures { λ r. ⌜ SavesPieces drive (now (board .entry)) (now (output .entry)) r (now (output .exit)) ⌝ }
+{
+    match check_standing(drive, board) {
+        Check::Refused(r) => Saved {
+            drive,
+            answer: Saving::Refused(r),
+        },
+        Check::Clear => {
+            let answer = put_pieces(
+                board,
+                drive.capacity as usize,
+                drive.position as usize,
+                output,
+            );
+            Saved { drive, answer }
+        }
+    }
+}
+
+// The refusals 12 and 5, of a sheet's layout and of the board that it spells. The board is spelled to entries that are not lent and tested there;
+// where it passes, the board that is lent gets it.
+fn load_entries(sheet: &[u8], c: usize, board: &mut [u16]) -> Check
+    requires { ⌜ (0 < c) × (c ≤ 4095) × (512 ≤ length (now sheet)) × (c ≤ length (now board)) ⌝ }
+    ensures { λ r. ⌜ Holds pieceForm c (now (sheet .entry)) (now (board .entry)) r (now (board .exit)) ⌝ }
+{
+    let mut scratch = no_leaves();
+    let spelt = &mut scratch[..c];
+    entries::spell(sheet, c, spelt);
+    if entries::is_laid(sheet, c, spelt) {
+        if pieces::good(spelt, c) {
+            leaves::set_leaves(spelt, board);
+            Check::Clear
+        } else {
+            Check::Refused(Refusal::Damaged)
+        }
+    } else {
+        Check::Refused(Refusal::Block)
+    }
+}
+
+// The refusals of read, in its order. Where there is none, the board gets the leaves that the sheet spells.
+fn load_pieces(sheet: &[u8], board: &mut [u16]) -> Check
+    ensures { λ r. ⌜ (r ≡ readingCheck pieceForm (now (sheet .entry)) (now (board .entry))) × (now (board .exit) ≡ loadedBoardAs pieceForm (now (sheet .entry)) (now (board .entry))) ⌝ }
+{
+    match check_start(sheet, board) {
+        Check::Refused(r) => Check::Refused(r),
+        Check::Clear => load_entries(sheet, blocks::number_at(sheet, 1), board),
+    }
+}
+
+// Reads a sheet of pieces: the leaves of a board, and a record at the position saved.
+pub fn read_pieces(sheet: &[u8], board: &mut [u16]) -> Loaded
+    ensures { λ r. ⌜ LoadsPieces (now (sheet .entry)) (now (board .entry)) r (now (board .exit)) ⌝ }
+{
+    match load_pieces(sheet, board) {
+        Check::Refused(r) => Loaded {
+            drive: Drive::new(0, 0),
+            answer: Loading::Refused(r),
+        },
+        Check::Clear => {
+            let c = blocks::number_at(sheet, 1);
+            let p = blocks::number_at(sheet, 2);
+            Loaded {
+                drive: Drive::new(c as u16, p as u16),
+                answer: Loading::Done,
+            }
+        }
+    }
+}
+
+// ---- from one form to the other, by a board of 4,095 entries that is not lent
+
+// The refusal 11, and where there is none the sheet of a board's leaves, at the start of the output.
+fn put_leaves(board: &[u16], c: usize, output: &mut [u8]) -> Saving
+    requires { ⌜ (c ≤ length (now board)) × (c ≤ 4095) ⌝ }
+    ensures { λ r. ⌜ Puts leafForm c 1 (now (board .entry)) (now (output .entry)) r (now (output .exit)) ⌝ }
+{
+    let size = 512 * leaves::block_count(c);
+    if output.len() < size {
+        return Saving::Refused(Refusal::Output);
+    }
+    leaves::write_sheet(board, c, output);
+    Saving::Done(size)
+}
+
+// Writes a sheet of leaves as one of pieces, at p = 1.
+pub fn to_pieces(sheet: &[u8], output: &mut [u8]) -> Saving
+    ensures { λ r. ⌜ ToPieces (now (sheet .entry)) (now (output .entry)) r (now (output .exit)) ⌝ }
+{
+    let mut scratch = no_leaves();
+    match load(sheet, &mut scratch) {
+        Check::Refused(r) => Saving::Refused(r),
+        Check::Clear => put_pieces(&scratch, blocks::number_at(sheet, 1), 1, output),
+    }
+}
+
+// Writes a sheet of pieces as one of leaves, where it was saved at p = 1.
+pub fn to_leaves(sheet: &[u8], output: &mut [u8]) -> Saving
+    ensures { λ r. ⌜ ToLeaves (now (sheet .entry)) (now (output .entry)) r (now (output .exit)) ⌝ }
+{
+    let mut scratch = no_leaves();
+    match load_pieces(sheet, &mut scratch) {
+        Check::Refused(r) => Saving::Refused(r),
+        Check::Clear => {
+            if blocks::number_at(sheet, 2) != 1 {
+                return Saving::Refused(Refusal::Midround);
+            }
+            put_leaves(&scratch, blocks::number_at(sheet, 1), output)
         }
     }
 }

@@ -47,7 +47,7 @@ pub fn left_in(e: &mandrozsi::Entry) -> Entry {
 
 pub struct Boundary;
 
-fn answer(reply: Reply) -> Answer {
+pub fn answer(reply: Reply) -> Answer {
     let Said {
         number,
         first,

@@ -262,3 +262,46 @@ unsafe extern "C" fn mandrozsi_fresh(drive: Drive, board: *mut u16, entries: usi
 unsafe extern "C" fn mandrozsi_pair_fresh(own: Drive, other: Drive, board: *mut u16, entries: usize) -> Reply {
     ask(19, [own, other], 0, 0, [Lent::changed(board, entries), NONE, NONE])
 }
+#[no_mangle]
+unsafe extern "C" fn mandrozsi_save_pieces(drive: Drive, board: *const u16, entries: usize, output: *mut u8, length: usize) -> Reply {
+    ask(20, one(drive), 0, 0, [Lent::shared(board, entries), NONE, Lent::changed(output, length)])
+}
+#[no_mangle]
+unsafe extern "C" fn mandrozsi_read_pieces(
+    sheet: *const u8,
+    length: usize,
+    board: *mut u16,
+    entries: usize,
+    list: *mut u64,
+    numbers: usize,
+) -> Reply {
+    let lent = [Lent::changed(board, entries), Lent::changed(list, numbers), Lent::shared(sheet, length)];
+    ask(21, one(Drive::default()), 0, 0, lent)
+}
+
+/// A conversion: the output, and the sheet beside it.
+fn convert(call: u16, sheet: Lent, output: Lent) -> Said {
+    let drives = [Drive::default(); 2];
+    ask_all(call, drives, 0, 0, [NONE, NONE, output, NONE, NONE, NONE, sheet, NONE]).said
+}
+
+#[no_mangle]
+unsafe extern "C" fn mandrozsi_to_pieces(sheet: *const u8, bytes: usize, output: *mut u8, length: usize) -> Said {
+    convert(22, Lent::shared(sheet, bytes), Lent::changed(output, length))
+}
+#[no_mangle]
+unsafe extern "C" fn mandrozsi_to_leaves(sheet: *const u8, bytes: usize, output: *mut u8, length: usize) -> Said {
+    convert(23, Lent::shared(sheet, bytes), Lent::changed(output, length))
+}
+#[no_mangle]
+unsafe extern "C" fn mandrozsi_pair_save_pieces(
+    own: Drive,
+    other: Drive,
+    board: *const u16,
+    entries: usize,
+    output: *mut u8,
+    length: usize,
+) -> Reply {
+    let lent = [Lent::shared(board, entries), NONE, Lent::changed(output, length)];
+    ask(24, [own, other], 0, 0, lent)
+}

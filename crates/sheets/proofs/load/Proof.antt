@@ -6,7 +6,7 @@ use native.Mathlib.Omega.{arith}
 use Rattle.calls.proofs.Laws.{open-clear}
 use Rattle.calls.specs.declared.Check.the-variants.{Clear}
 use Rattle.sheets.specs.Sheet.{capacityIn}
-use Rattle.sheets.specs.Results.{startCheck}
+use Rattle.sheets.specs.Results.{leafForm, startCheck}
 use Rattle.sheets.proofs.Layouts.{laid-layout}
 use Rattle.sheets.proofs.Checked.{start-long, start-open, read-unfit, read-broken, read-tested, read-kept, read-set}
 use Rattle.sheets.proofs.load.Statement.{statement}
@@ -46,7 +46,7 @@ same-length c = search needs
 
 returns : tie.Need-returns
 returns c =
-    read-kept _ _ _ (read-unfit _ _ _ (c .before .before .before .check-start .ensures) _ (c .before .r .given .1))
+    read-kept leafForm _ _ _ (read-unfit leafForm _ _ _ (c .before .before .before .check-start .ensures) _ (c .before .r .given .1))
 
 same-length-2 : tie.Need-same-length-2
 same-length-2 c = search needs
@@ -54,8 +54,8 @@ same-length-2 c = search needs
 returns-2 : tie.Need-returns-2
 unfolding capacityIn
 returns-2 c =
-    read-set _ _ _ _ _ (c .before .before .before .before .before .before .number-at .ensures .0)
-    (read-tested _ _ _ (c .before .before .before .before .before .before .before .before .before .check-start .ensures) (c .before .before .before .before .before .before .before .enum-told .given .1) _ (c .before .before .before .before .before .before .number-at .ensures .0) _ (c .before .before .before .before .before .is-laid .ensures) _ (c .before .before .before .before .if1 .taken) (c .before .before .load-leaves .ensures .0))
+    read-set leafForm _ _ _ _ _ (c .before .before .before .before .before .before .number-at .ensures .0)
+    (read-tested leafForm _ _ _ (c .before .before .before .before .before .before .before .before .before .check-start .ensures) (c .before .before .before .before .before .before .before .enum-told .given .1) _ (c .before .before .before .before .before .before .number-at .ensures .0) _ (c .before .before .before .before .before .is-laid .ensures) _ (c .before .before .before .before .if1 .taken) (c .before .before .load-leaves .ensures .0))
     (c .before .before .load-leaves .ensures .1)
 
 same-length-3 : tie.Need-same-length-3
@@ -64,7 +64,7 @@ same-length-3 c = search needs
 returns-3 : tie.Need-returns-3
 unfolding capacityIn
 returns-3 c =
-    read-kept _ _ _ (read-broken _ _ _ (c .before .before .before .before .before .check-start .ensures) (c .before .before .before .enum-told .given .1) _ (c .before .before .number-at .ensures .0) _ (c .before .is-laid .ensures) (c .if1 .left))
+    read-kept leafForm _ _ _ (read-broken leafForm _ _ _ (c .before .before .before .before .before .check-start .ensures) (c .before .before .before .enum-told .given .1) _ (c .before .before .number-at .ensures .0) _ (c .before .is-laid .ensures) (c .if1 .left))
 
 pub load-spec : {M : Type 1} → statement M
 load-spec =

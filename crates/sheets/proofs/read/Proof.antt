@@ -3,6 +3,7 @@ use mathlib.Core.Path.{refl, sym, _∙_}
 use native.Mathlib.Omega.{arith}
 use borrow.Author.Needs.{needs}
 use Rattle.sheets.specs.Sheet.{capacityIn}
+use Rattle.sheets.specs.Results.{leafForm}
 use Rattle.sheets.proofs.Checked.{clear-read}
 use Rattle.sheets.proofs.read.Statement.{statement}
 use Rattle.sheets.proofs.read.Tie as tie
@@ -21,7 +22,7 @@ enum-told c = search needs
 
 number-at-requires : tie.Need-number-at-requires
 number-at-requires c κs =
-    let readable = clear-read _ _ (sym (c .before .before .before .before .load .ensures .0) ∙ c .enum-told .given .1) in
+    let readable = clear-read leafForm _ _ (sym (c .before .before .before .before .load .ensures .0) ∙ c .enum-told .given .1) in
     omega arith
 
 cast-new : tie.Need-cast-new

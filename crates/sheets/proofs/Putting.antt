@@ -1,0 +1,68 @@
+-- A board's sheet of pieces put into an output, and what save makes of it. Assumes nothing.
+use mathlib.Core.Path.{_≡_, refl, sym, ap, _∙_}
+use mathlib.Core.Bool.{Bool, true, false, not}
+use mathlib.Core.List.{List, [], _∷_, _++_}
+use Prim.Native.Nat.{ℕ, _*_, _≤_, _<_}
+use lib.Dec.{ltb}
+use lib.ListN.{length, drop, replicate, length-replicate}
+use lib.Seq.{sets}
+use borrow.Author.Tests.{lt-ltb, le-ltb}
+use Rattle.pieces.specs.Board.{good}
+use Rattle.pieces.specs.Listing.{namedPieces}
+use Rattle.calls.specs.Refusals.{andThen, refuseIf, slotCheck, goodCheck}
+use Rattle.calls.specs.Answers.{answered}
+use Rattle.calls.specs.Results.{ifClear}
+use Rattle.calls.specs.declared.Drive.{Drive}
+use Rattle.calls.specs.declared.Refusal.{Refusal}
+use Rattle.calls.specs.declared.Refusal.the-variants.{Output, Damaged, Block}
+use Rattle.calls.specs.declared.Check.{Check}
+use Rattle.calls.specs.declared.Check.the-variants.{Clear, Refused}
+use Rattle.sheets.specs.declared.Saved.{Saved}
+use Rattle.sheets.specs.declared.Saving.{Saving}
+use Rattle.sheets.specs.declared.Saving.the-variants as saving
+use Rattle.sheets.specs.Entries.{entryBlocks, entryBytes, entrySheet, spelled, keeps}
+use Rattle.sheets.specs.Forms.{Puts, roomCheck, heldCheck, sizeOf}
+use Rattle.sheets.specs.Results.{pieceForm}
+use Rattle.sheets.specs.Promises.{SavesPieces}
+use Rattle.sheets.proofs.Spelling.{pieces-sheet, spelled-length}
+use Rattle.sheets.proofs.Checked.{saving-told, entry-parts, good-check, bad-check, clear-block, refused-block}
+
+module _ (C p n m : ℕ) (B O : List ℕ) (listIs : n ≡ length (namedPieces C B)) (blocksAre : m ≡ entryBlocks n) where
+  blocks-are : entryBlocks (length (namedPieces C B)) ≡ m
+  blocks-are = sym (blocksAre ∙ ap entryBlocks listIs)
+
+  pub put-short : length O < 512 * m → Puts pieceForm C p B O (saving.Refused Output) O
+  put-short h = rw (blocks-are, lt-ltb (length O) (512 * m) h) (refl, refl)
+
+  pub put-all : 512 * m ≤ length O → (l L E : List ℕ) → l ≡ replicate 12288 0 → n ≤ 12288 → L ≡ sets l 0 (namedPieces C B)
+      → E ≡ entryBytes C p n L ++ drop (512 * entryBlocks n) O → Puts pieceForm C p B O (saving.Done (512 * m)) E
+  put-all h l L E z few e w =
+      let bytes = pieces-sheet C p n B l L listIs (rw (z, length-replicate {A = ℕ} 12288 0) few) e in
+      rw (blocks-are, le-ltb (length O) (512 * m) h) (refl, w ∙ rw (bytes, ← blocksAre) refl)
+
+module _ (d : Drive) (B O : List ℕ) (r : Check) (found : r ≡ andThen (slotCheck d B) (goodCheck (d .capacity) B)) where
+  pub save-refuses : (x : Refusal) → r ≡ Refused x → SavesPieces d B O (record { drive = d; answer = saving.Refused x }) O
+  save-refuses x e = rw (entry-parts d B (length O), ← found, e) (refl, refl, refl)
+
+  pub save-puts : (a : Saving) (E : List ℕ) → r ≡ Clear → Puts pieceForm (d .capacity) (d .position) B O a E → SavesPieces d B O (record { drive = d; answer = a }) E
+  save-puts a E e w =
+      rw (entry-parts d B (length O), ← found, e) (rw (w .0) refl, rw (w .0) (saving-told (roomCheck (length O) (sizeOf pieceForm d B)) (sizeOf pieceForm d B)), w .1)
+
+-- ---- a board spelled and tested, D, of which the lent board B is made E
+
+module _ (C : ℕ) (s : List ℕ) (k : Bool) (layout : k ≡ keeps C s) where
+  pub loads-broken : k ≡ false → Refused Block ≡ heldCheck pieceForm C s
+  loads-broken e = rw (← layout, e, refused-block) refl
+
+  module _ (D : List ℕ) (kept : k ≡ true) (spells : D ≡ spelled C s) where
+    loads : (g : Check) → goodCheck C D ≡ g → g ≡ heldCheck pieceForm C s
+    loads g e = rw (← layout, kept, clear-block, ← spells) (sym e)
+
+    pub loads-bad : good C D ≡ false → Refused Damaged ≡ heldCheck pieceForm C s
+    loads-bad e = loads (Refused Damaged) (bad-check C D e)
+
+    pub loads-good : good C D ≡ true → Clear ≡ heldCheck pieceForm C s
+    loads-good e = loads Clear (good-check C D e)
+
+pub loads-board : (C : ℕ) (s D B E : List ℕ) → D ≡ spelled C s → E ≡ D ++ drop (length D) B → E ≡ spelled C s ++ drop C B
+loads-board C s D B E e w = w ∙ rw (e, spelled-length C s) refl

@@ -1,0 +1,65 @@
+-- `load_pieces` meets its contract. Assumes nothing.
+use mathlib.Core.Path.{_≡_, sym, _∙_}
+use native.Mathlib.Omega.{arith}
+use borrow.Author.Needs.{needs}
+use Rattle.calls.specs.declared.Check.the-variants.{Clear}
+use Rattle.calls.proofs.Laws.{open-clear}
+use Rattle.sheets.specs.Sheet.{capacityIn}
+use Rattle.sheets.specs.Results.{pieceForm, startCheck}
+use Rattle.sheets.proofs.Checked.{start-long, start-open, read-unfit, read-rest, read-kept, read-set}
+use Rattle.sheets.proofs.load_pieces.Statement.{statement}
+use Rattle.sheets.proofs.load_pieces.Tie as tie
+
+-- the first checks are clear
+begun : (c : tie.After-enum-told) → startCheck (c .before .before .before .before .before .before .args .sheet .now) (c .before .before .before .before .before .before .args .board .now) ≡ Clear
+begun c = sym (c .before .before .check-start .ensures) ∙ c .enum-told .given .1
+
+check-start-requires : tie.Need-check-start-requires
+check-start-requires c κs = search needs
+
+enum-known-r : tie.Need-enum-known-r
+enum-known-r c = search needs
+
+enum-told : tie.Need-enum-told
+enum-told c = search needs
+
+number-at-requires : tie.Need-number-at-requires
+number-at-requires c κs = omega (arith, start-long _ _ (begun (c)))
+
+load-entries-requires : tie.Need-load-entries-requires
+unfolding capacityIn
+load-entries-requires c κs =
+    let long = start-long _ _ (begun (c .before .before)) in
+    let sized = open-clear _ _ (start-open _ _ (begun (c .before .before))) in
+    let is = c .before .number-at .ensures .0 in
+    omega arith
+
+same-length : tie.Need-same-length
+same-length c = search needs
+
+returns : tie.Need-returns
+returns c = read-kept pieceForm _ _ _ (read-unfit pieceForm _ _ _ (c .before .before .before .check-start .ensures) _ (c .before .r .given .1))
+
+same-length-2 : tie.Need-same-length-2
+same-length-2 c = search needs
+
+returns-2 : tie.Need-returns-2
+unfolding capacityIn
+returns-2 c =
+    read-set pieceForm _ _ _ _ _ (c .before .before .before .before .number-at .ensures .0)
+    (read-rest pieceForm _ _ _ (c .before .before .before .before .before .before .before .check-start .ensures) _ _ (c .before .before .before .before .before .enum-told .given .1) (c .before .before .before .before .number-at .ensures .0) (c .before .before .load-entries .ensures .0))
+    (c .before .before .load-entries .ensures .1)
+
+pub load-pieces-spec : {M : Type 1} → statement M
+load-pieces-spec =
+    tie.close
+    (tie.spec
+    check-start-requires
+    enum-known-r
+    enum-told
+    number-at-requires
+    load-entries-requires
+    same-length
+    returns
+    same-length-2
+    returns-2)

@@ -1,0 +1,163 @@
+// The form of sheet that lists the pieces: what its blocks hold, written, read and tested.
+ghost use mathlib.Core.Path.{_≡_};
+ghost use mathlib.Core.List.{_++_};
+ghost use Prim.Native.Nat.{_+_, _*_, _/_, _≤_, _<_};
+ghost use lib.Dec.{eqb};
+ghost use lib.ListN.{length, getD, drop, replicate};
+ghost use lib.Seq.{sets};
+ghost use Rattle.sheets.specs.Blocks.{every, bytesOf};
+ghost use Rattle.sheets.specs.Entries as sheets;
+use crate::blocks;
+use crate::leaves;
+use calls::Check;
+use calls::Drive;
+
+// How many numbers of entries a block has: 84 times three.
+const PER_BLOCK: usize = 252;
+
+// The number of block 0.
+const FIRST: usize = 32768;
+
+// A list of no entries. The array is made here and nowhere else, so that no other proof computes it; so the bytes below.
+pub fn no_list() -> [u16; 12288]
+    ensures { λ r. ⌜ r ≡ replicate 12288 0 ⌝ }
+{
+    [0u16; 12288]
+}
+
+// The bytes of the longest sheet, of 49 blocks.
+fn no_bytes() -> [u8; 25088]
+    ensures { λ r. ⌜ r ≡ replicate 25088 0 ⌝ }
+{
+    [0u8; 25088]
+}
+
+// How many blocks so many numbers of entries need.
+pub fn block_count(n: usize) -> usize
+    ensures { λ r. ⌜ r ≡ sheets.entryBlocks n ⌝ }
+{
+    if n == 0 {
+        return 1;
+    }
+    (n - 1) / PER_BLOCK + 1
+}
+
+// Writes block b of the sheet of the first n numbers of a list.
+fn write_block(list: &[u16], n: usize, c: usize, p: usize, b: usize, output: &mut [u8])
+    requires { ⌜ (252 * b ≤ n) × (n ≤ length (now list)) × (n ≤ 12288) × (c ≤ 4095) × (p < 65536) × (512 * b + 512 ≤ length (now output)) ⌝ }
+    ensures { λ _. ⌜ now (output .exit) ≡ sets (now (output .entry)) (512 * b) (bytesOf (sheets.entryPage c p n (now (list .entry)) b)) ⌝ }
+{
+    blocks::start_block(output, b, FIRST + b, c);
+    blocks::put_number(output, 256 * b + 2, p);
+    let t = leaves::write_leaves(list, n, PER_BLOCK * b, PER_BLOCK, output, 256 * b + 3);
+    blocks::close_block(output, b, FIRST + b + c + (p + t));
+}
+
+// Writes the sheet of the first n numbers of a list.
+pub fn write_sheet(list: &[u16], n: usize, c: usize, p: usize, output: &mut [u8])
+    requires { ⌜ (n ≤ length (now list)) × (n ≤ 12288) × (c ≤ 4095) × (p < 65536) × (512 * sheets.entryBlocks n ≤ length (now output)) ⌝ }
+    ensures { λ _. ⌜ now (output .exit) ≡ sheets.entryBytes c p n (now (list .entry)) ++ drop (512 * sheets.entryBlocks n) (now (output .entry)) ⌝ }
+{
+    let m = block_count(n);
+    let mut b: usize = 0;
+    while b < m {
+        write_block(list, n, c, p, b, output);
+        b += 1;
+    }
+}
+
+// Number i of the entries.
+fn entry_number(sheet: &[u8], i: usize) -> usize
+    requires { ⌜ i < 252 * (length (now sheet) / 512) ⌝ }
+    ensures { λ r. ⌜ (r ≡ sheets.entryIn (now (sheet .entry)) i) × (r < 65536) ⌝ }
+{
+    blocks::number_at(sheet, 256 * (i / PER_BLOCK) + (3 + i % PER_BLOCK))
+}
+
+// Whether an entry can be read after others that end at a leaf.
+fn fits(c: usize, at: usize, x: usize, a: usize, l: usize) -> bool
+    requires { ⌜ (c ≤ 4095) × (a < 65536) ⌝ }
+    ensures { λ r. ⌜ r ≡ sheets.fits c at x a l ⌝ }
+{
+    if x == 0 {
+        return false;
+    }
+    if 12 <= l {
+        return false;
+    }
+    let size = pieces::size_of(l);
+    if a % size != 0 {
+        return false;
+    }
+    if a < at {
+        return false;
+    }
+    a + size <= c
+}
+
+// Reads the entries of a sheet to a board, up to the first that cannot be read.
+pub fn spell(sheet: &[u8], c: usize, board: &mut [u16])
+    requires { ⌜ (c ≤ 4095) × (c ≤ length (now board)) ⌝ }
+    ensures { λ _. ⌜ now (board .exit) ≡ sheets.spell (sheets.entryIn (now (sheet .entry))) c (now (board .entry)) 0 0 (84 * (length (now (sheet .entry)) / 512)) ⌝ }
+{
+    let m = 84 * (sheet.len() / 512);
+    let mut at: usize = 0;
+    let mut i: usize = 0;
+    while i < m {
+        let x = entry_number(sheet, 3 * i);
+        let a = entry_number(sheet, 3 * i + 1);
+        let l = entry_number(sheet, 3 * i + 2);
+        if fits(c, at, x, a, l) {
+            let size = pieces::size_of(l);
+            pieces::fill(board, a, size, x as u16);
+            at = a + size;
+            i += 1;
+        } else {
+            return;
+        }
+    }
+}
+
+// Whether bytes are the first of some others.
+fn starts(sheet: &[u8], bytes: &[u8]) -> bool
+    requires { ⌜ length (now sheet) ≤ length (now bytes) ⌝ }
+    ensures { λ r. ⌜ r ≡ every (λ i. eqb (getD (now (sheet .entry)) i 0) (getD (now (bytes .entry)) i 0)) 0 (length (now (sheet .entry))) ⌝ }
+{
+    let n = sheet.len();
+    let mut i: usize = 0;
+    while i < n {
+        if sheet[i] == bytes[i] {
+            i += 1;
+        } else {
+            return false;
+        }
+    }
+    true
+}
+
+// Whether bytes are the sheet of a board at p.
+fn is_sheet_of(sheet: &[u8], c: usize, p: usize, board: &[u16]) -> bool
+    requires { ⌜ (c ≤ length (now board)) × (c ≤ 4095) × (p < 65536) ⌝ }
+    ensures { λ r. ⌜ r ≡ sheets.same (now (sheet .entry)) (sheets.entrySheet c p (now (board .entry))) ⌝ }
+{
+    let mut list = no_list();
+    let n = pieces::listing::list_pieces(board, c, &mut list);
+    if sheet.len() != 512 * block_count(n) {
+        return false;
+    }
+    let mut bytes = no_bytes();
+    write_sheet(&list, n, c, p, &mut bytes);
+    starts(sheet, &bytes)
+}
+
+// Whether the bytes keep the layout of a sheet of c leaves, of which they spell the board.
+pub fn is_laid(sheet: &[u8], c: usize, board: &[u16]) -> bool
+    requires { ⌜ (0 < c) × (c ≤ 4095) × (512 ≤ length (now sheet)) × (c ≤ length (now board)) × (now board ≡ sheets.spelled c (now sheet)) ⌝ }
+    ensures { λ r. ⌜ r ≡ sheets.keeps c (now (sheet .entry)) ⌝ }
+{
+    let p = blocks::number_at(sheet, 2);
+    match Drive::new(c as u16, p as u16).check_slot(board) {
+        Check::Refused(_r) => false,
+        Check::Clear => is_sheet_of(sheet, c, p, board),
+    }
+}
