@@ -86,7 +86,10 @@ enum mandrozsi_number {
     MANDROZSI_WAITING = 13,  /* the order waits under a ticket */
     MANDROZSI_QUEUE = 14,    /* no order can wait: the 64 places are taken, or the tickets are used up */
     MANDROZSI_TICKET = 15,   /* no order and no answer on the list has the ticket */
-    MANDROZSI_POWER = 16     /* C is no power of two (walk) */
+    MANDROZSI_POWER = 16,    /* C is no power of two (walk and import) */
+    MANDROZSI_KIND = 17,     /* an over-allocated stream is held, and a sheet cannot hold it */
+    MANDROZSI_GROUP = 18     /* starts and names are no group table: not k + 1 starts from 0 that rise to C at most by whole streams, not as many names as
+                                the lists hold, or a name that is 0 or stands there twice */
 };
 
 /* Makes the first `capacity` entries idle and empties the list, answers too; tickets count on. Done: a record at p = 1, of round 0.
@@ -204,6 +207,15 @@ static inline mandrozsi_said mandrozsi_slot_here(mandrozsi_drive *drive, uint16_
 {
     return mandrozsi_pair_slot_here(drive, *drive, board, entries, list, numbers);
 }
+
+/* Takes a neighbour's table of groups, for C = 2^k: streams in lists by rate, highest first, list i of rate 2^(k - i - 1). `starts` has the k + 1
+ * starting timeslots, and `names` the streams in the order of the lists: list i holds (start i + 1 less start i) over its rate. It writes the table's own
+ * round, by its rule, to the start of the output, in which each stream of rate 2^n is served once in each aligned 2^(k - n) slots; opens the board and
+ * admits the streams in the order of the table, each with its rate as weight; and empties the list, answers too. Done: a record at p = 1, of round 0.
+ * The round of the imported board need not be the table's: both serve each stream as often, in another order.
+ * Refused, looked for in this order: 1; 16; 2; 18; 11. A refusal leaves the board, the list and the output as they were. */
+mandrozsi_reply mandrozsi_import(uint16_t capacity, const uint16_t *starts, size_t given, const uint16_t *names, size_t streams, uint16_t *board,
+                                 size_t entries, uint64_t *list, size_t numbers, uint16_t *output, size_t length);
 
 /* Serves a slot by a second engine, for C a power of two: a walk down a tree over the leaves, from the root. At every inner node a mark of 0 becomes
  * 1 and leads left, any other becomes 0 and leads right. `marks` has one mark for each of the C - 1 inner nodes, by level, root first: those of node

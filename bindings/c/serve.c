@@ -21,7 +21,7 @@ enum { ROOM = 65536, MARKED = 64, MARK = 0xA5 };
 enum { OPEN, ADD, REMOVE, SLOT, ROUND, REPORT, SAVE, READ, FETCH };
 enum { PAIR_ADD = 9, PAIR_REMOVE, PAIR_SLOT, PAIR_ROUND, PAIR_REPORT, PAIR_SAVE, PAIR_BATCH, PAIR_SLOT_HERE };
 enum { WALK = 17, FRESH, PAIR_FRESH };
-enum { SAVE_PIECES = 20, READ_PIECES, TO_PIECES, TO_LEAVES, PAIR_SAVE_PIECES };
+enum { SAVE_PIECES = 20, READ_PIECES, TO_PIECES, TO_LEAVES, PAIR_SAVE_PIECES, IMPORT };
 
 /* The slices that a call can be lent: OTHER is the output, sheet, marks or table of changes; then come the tables, and what is only read beside an
  * output: a sheet, or the starts and names of a group table. */
@@ -81,6 +81,7 @@ static mandrozsi_reply make(const struct call *c, uint8_t *lent[SLICES])
     uint16_t *names = (uint16_t *)(void *)other;
     mandrozsi_entry *table = (mandrozsi_entry *)(void *)other;
     uint8_t *given = lent[GIVEN];
+    uint16_t *starts = (uint16_t *)(void *)given, *streams = (uint16_t *)(void *)lent[NAMES];
     mandrozsi_said said;
     switch (c->number) {
     case OPEN: return mandrozsi_open(c->capacity, board, entries, list, numbers);
@@ -111,6 +112,9 @@ static mandrozsi_reply make(const struct call *c, uint8_t *lent[SLICES])
     case TO_PIECES: return (mandrozsi_reply){{0, 0, 0}, mandrozsi_to_pieces(given, c->bytes[GIVEN], other, length)};
     case TO_LEAVES: return (mandrozsi_reply){{0, 0, 0}, mandrozsi_to_leaves(given, c->bytes[GIVEN], other, length)};
     case PAIR_SAVE_PIECES: return mandrozsi_pair_save_pieces(drive, partner, board, entries, other, length);
+    case IMPORT:
+        return mandrozsi_import(c->capacity, starts, c->bytes[GIVEN] / sizeof *starts, streams, c->bytes[NAMES] / sizeof *streams, board, entries, list,
+                                numbers, names, length / sizeof *names);
     }
     end("there is no such call");
 }

@@ -28,12 +28,14 @@ use std::fmt;
 
 mod batch;
 mod convert;
+mod groups;
 mod pair;
 pub mod raw;
 mod tree;
 
 pub use batch::Entry;
 pub use convert::{to_leaves, to_pieces};
+pub use groups::import;
 pub use pair::{Pair, Side};
 pub use tree::{walk, Walked};
 
@@ -81,13 +83,17 @@ pub enum Refusal {
     Queue,
     /// No order and no answer on the list has the ticket.
     Ticket,
-    /// C is no power of two, which a walk needs.
+    /// C is no power of two, which a walk and a group table need.
     Power,
+    /// An over-allocated stream is held, which a sheet cannot hold.
+    Kind,
+    /// Starts and names are no group table.
+    Group,
 }
 
 impl Refusal {
     /// Every refusal, in the order of the numbers; `Room` on a full board.
-    pub const ALL: [Refusal; 15] = [
+    pub const ALL: [Refusal; 17] = [
         Refusal::Capacity,
         Refusal::Short,
         Refusal::Position,
@@ -103,9 +109,11 @@ impl Refusal {
         Refusal::Queue,
         Refusal::Ticket,
         Refusal::Power,
+        Refusal::Kind,
+        Refusal::Group,
     ];
 
-    /// The number: 1 to 12, 14 to 16. (13 is WAITING, which is no refusal here.)
+    /// The number: 1 to 12, 14 to 18. (13 is WAITING, which is no refusal here.)
     pub const fn number(self) -> u16 {
         match self {
             Refusal::Capacity => 1,
@@ -123,6 +131,8 @@ impl Refusal {
             Refusal::Queue => 14,
             Refusal::Ticket => 15,
             Refusal::Power => 16,
+            Refusal::Kind => 17,
+            Refusal::Group => 18,
         }
     }
 
@@ -161,6 +171,8 @@ impl fmt::Display for Refusal {
             Refusal::Queue => write!(f, "no order can wait"),
             Refusal::Ticket => write!(f, "there is no such ticket"),
             Refusal::Power => write!(f, "the capacity is no power of two"),
+            Refusal::Kind => write!(f, "an over-allocated stream is held"),
+            Refusal::Group => write!(f, "starts and names are no group table"),
         }?;
         write!(f, " ({})", self.number())
     }
@@ -255,7 +267,7 @@ fn change_of(number: u64, value: u64) -> Result<Change, Refusal> {
 }
 
 fn refused(number: u64, value: u64) -> Refusal {
-    Refusal::from_number(short(number), short(value)).expect("the library's numbers are 0 to 16")
+    Refusal::from_number(short(number), short(value)).expect("the library's numbers are 0 to 18")
 }
 
 /// What slot says; the record moves on.

@@ -64,5 +64,18 @@ extern "C" {
         changes: usize,
     ) -> Drive;
     pub fn mandrozsi_pair_slot_here(own: *mut Drive, other: Drive, board: *mut u16, entries: usize, list: *mut u64, numbers: usize) -> Said;
+    pub fn mandrozsi_import(
+        capacity: u16,
+        starts: *const u16,
+        given: usize,
+        names: *const u16,
+        streams: usize,
+        board: *mut u16,
+        entries: usize,
+        list: *mut u64,
+        numbers: usize,
+        output: *mut u16,
+        length: usize,
+    ) -> Reply;
     pub fn mandrozsi_walk(capacity: u16, board: *const u16, entries: usize, marks: *mut u16, length: usize) -> Said;
 }

@@ -97,7 +97,7 @@ fn numbers() {
         .collect();
     assert_eq!(lines[0], ("MANDROZSI_DONE", "0"));
     assert_eq!(lines[13], ("MANDROZSI_WAITING", "13"));
-    assert_eq!(lines.len(), 17);
+    assert_eq!(lines.len(), 19);
     let refusals = lines[1..].iter().filter(|line| line.1 != "13");
     for (refusal, (name, number)) in Refusal::ALL.iter().zip(refusals) {
         let word = format!("{refusal:?}").split(' ').next().unwrap().to_uppercase();
@@ -174,7 +174,7 @@ fn functions() {
     let code = code();
     let header = declared(&code, false);
     let rust = declared(include_str!("../src/raw.rs"), true);
-    assert_eq!(header.len(), 25);
+    assert_eq!(header.len(), 26);
     assert_eq!(header, rust);
     let alone: Vec<_> = header.iter().filter(|(back, ..)| *back == "said").map(|(_, name, _)| *name).collect();
     let expected = ["to_pieces", "to_leaves", "fetch", "pair_slot_here", "walk"].map(|name| format!("mandrozsi_{name}"));

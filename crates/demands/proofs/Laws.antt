@@ -4,6 +4,7 @@
 --   `never-damaged` .. `served-fair`: what calls answer in a sound state, and what a full round from it serves.
 --   `served-power`, `served-still`: what slots in a row serve where no change is done, over any number of rounds; `slot-still`,
 --   `slots-still`, `still-board`: such calls, and what they leave.
+--   `opened-adds`: what adds to an opened board leave, where each can be made in its turn.
 --   `fresh-passes`, `fresh-adds` .. `fresh-round`: when a fresh layout is done, and what it leaves.
 --   `number-counted` .. `told-full`: what the round number tells, from any state whose record is that of an opened or a read board.
 --   `moves`, `drive-moves`, `slot-moves`, `after-one`, `after-append`, `held-append`, `names-append`: where acts lead, and acts after acts.
@@ -22,5 +23,5 @@ pub use Rattle.demands.proofs.Numbering.{driveAfter, certificateOf, dri
 pub use Rattle.demands.proofs.Told.{full-number, full-over, number-counted, certificate-at, one-slot, full-told, told-full}
 pub use Rattle.demands.proofs.Standing.{never-damaged, midround, fresh-passes, others-pass, room, room-told, room-asked, held-weight, served-round, served-fair}
 pub use Rattle.demands.proofs.Stretching.{slot-still, slots-still, still-board, served-power, served-still}
-pub use Rattle.demands.proofs.Laying.{fresh-adds, fresh-equal, fresh-rounds}
+pub use Rattle.demands.proofs.Laying.{opened-adds, fresh-adds, fresh-equal, fresh-rounds}
 pub use Rattle.demands.proofs.Demands.{fresh-layout, fresh-again, fresh-done, fresh-held, fresh-leaves, fresh-round, demand-3-undamaged, demand-3-slot, demand-3-midround, demand-3-within, demand-3-room, demand-3-ask, demand-3-others, demand-3-held, demand-3-pieces, demand-3-idle, demand-3-full, demand-3-round, demand-3-fair, demand-3-demanded, record-kept, round-one-number, round-counted, slot-certified, certificate-once, round-told, told-round, still-slots, still-kept, power-fair, still-fair}

@@ -1,4 +1,4 @@
--- The fresh layout is the board of adds to an opened one, every one of them done; and it hangs on what is held alone.
+-- Streams laid on idle leaves are adds to an opened board, every one of them done; a fresh layout is such, and hangs on what is held alone.
 -- Assumes nothing.
 use mathlib.Core.Path.{_≡_, refl, sym, ap, subst, _∙_}
 use mathlib.Core.List.{List, [], _∷_}
@@ -37,15 +37,20 @@ adds-laid d (s ∷ ss) D e p =
     let m : does (Add (s .name) (s .weight)) (stateAt d D) ≡ stateAt d (placed (d .capacity) D (s .name) (s .weight)) = rw k refl in
     (ap (λ (u : State). after u (addsOf ss)) m ∙ r .0, (rw k refl, subst (λ (u : State). AllDone (log u (addsOf ss))) (sym m) (r .1)))
 
--- The board that a fresh layout leaves is that of an open and of an add for each stream, by falling weight, then rising name, every one of them done.
-pub fresh-adds : (C : ℕ) (B : List ℕ) → Openable C B
-    → (reach C B (streamAdds C B) ≡ stateAt (driveAt C 1) (fresh C B)) × AllDone (log (opens C B) (streamAdds C B))
-fresh-adds C B may =
+-- Streams that can be added to idle leaves one after the other make the board of an open and of an add for each of them, every one of them done.
+pub opened-adds : (C : ℕ) (B : List ℕ) → Openable C B → (ss : List pieces.Stream) → Placeables C (idle C B) ss
+    → (reach C B (addsOf ss) ≡ stateAt (driveAt C 1) (laid C (idle C B) ss)) × AllDone (log (opens C B) (addsOf ss))
+opened-adds C B may ss p =
     let d = driveAt C 1 in
     let o = opened C B may in
     let e : idle C B ≡ idleBoard C B = idle-opened C B (may .long) in
     let clear = fresh-passes (stateAt d (idleBoard C B)) [] o refl in
-    rw (opened-clear C B may, ← e) (adds-laid d (streams C B) (idle C B) (rw (← e) at clear) (fresh-placeable C B (may .few) (may .long)))
+    rw (opened-clear C B may, ← e) (adds-laid d ss (idle C B) (rw (← e) at clear) p)
+
+-- The board that a fresh layout leaves is that of an open and of an add for each stream, by falling weight, then rising name, every one of them done.
+pub fresh-adds : (C : ℕ) (B : List ℕ) → Openable C B
+    → (reach C B (streamAdds C B) ≡ stateAt (driveAt C 1) (fresh C B)) × AllDone (log (opens C B) (streamAdds C B))
+fresh-adds C B may = opened-adds C B may (streams C B) (fresh-placeable C B (may .few) (may .long))
 
 -- ---- two states that hold the same
 

@@ -1,5 +1,6 @@
 // The functions that C and Rust link: every call on a slot board with its waiting list, and save and read; in `pair` those for two drives on one board, in
-// `engine` the tree walk, in `listing` the sheets that list pieces. A slice is a pointer and then a length.
+// `engine` the tree walk, in `listing` the sheets that list pieces, in `neighbour` a group table. A slice is a pointer and then
+// a length.
 ghost use mathlib.Core.Path.{_≡_};
 ghost use lib.ListN.{length};
 ghost use Rattle.calls.specs.Answers.{openingAnswer, servingAnswer, roundingAnswer, refreshingAnswer, reportAnswer};
@@ -23,6 +24,7 @@ use waiting::Fetching;
 
 pub mod engine;
 pub mod listing;
+pub mod neighbour;
 pub mod pair;
 
 // What a call says: the answer's number, 0 for done, and its values in the order of document 01; a value that an answer does not have is 0. 64 bits each, so

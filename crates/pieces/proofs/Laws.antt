@@ -16,6 +16,10 @@ use Rattle.pieces.specs.Tidying.{Removable, removed}
 pub use Rattle.pieces.proofs.Examples.{worked}
 -- The board after an add that passes its checks.
 pub use Rattle.pieces.proofs.Placing.{placed-length, placed-good, placed-weight, placed-idle, placed-others, placed-leaf, placed-beyond}
+-- Streams added to idle leaves one after the other: that each can be added in its turn, and what they make of the board. `Apart` says that each has a name of
+-- its own and a weight; `listed` is what they give a name, `total` what they take in all.
+unfoldable pub use Rattle.pieces.proofs.Streams.{Apart, listed, total}
+pub use Rattle.pieces.proofs.Layouts.{idle-placeable, idle-laid}
 -- A board laid out afresh: its entries, that it is good, what each name holds, that each stream can be added in its turn, that it hangs on the weights alone.
 pub use Rattle.pieces.proofs.Layouts.{fresh-length, fresh-beyond, fresh-good, fresh-weights, fresh-placeable, fresh-same, fresh-again}
 -- A run of one name, leaf by leaf.
@@ -24,7 +28,8 @@ pub use Rattle.pieces.proofs.Blocks.{by-bool, clash, whole-elim, whole-
 -- order, and no leaf of a stream is left out; that there is no second such list.
 pub use Rattle.pieces.proofs.Entries.{leaf-whole, named-past, named-run, named-halves, named-same, named-few, named-words}
 pub use Rattle.pieces.proofs.Rows.{nameIn, startIn, sizeIn, named-entries, Complete, same-entries}
-use Rattle.pieces.proofs.Blocks.{total, pieces-runs}
+use Rattle.pieces.proofs.Blocks as blocks
+use Rattle.pieces.proofs.Blocks.{pieces-runs}
 use Rattle.pieces.proofs.Replace.{Agree, runs-local}
 use Rattle.pieces.proofs.Piece.{nth-order}
 use Rattle.pieces.proofs.Literal as literal
@@ -110,7 +115,7 @@ fill-outside = adding.fill-out
 -- ---- the board after a remove that passes its checks
 
 module _ (C : ℕ) (B : List ℕ) (x : ℕ) (may : Removable C B x) where
-  alike : (D : List ℕ) (y : ℕ) → weight C D y ≡ total C D y
+  alike : (D : List ℕ) (y : ℕ) → weight C D y ≡ blocks.total C D y
   alike D y = weights.weight-total C D y (omega (arith, may .small))
 
   was-good : Good C B

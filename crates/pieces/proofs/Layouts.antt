@@ -1,4 +1,5 @@
--- A board laid out afresh: what it holds, that it hangs on the weights alone, and that doing it again changes nothing. Assumes nothing.
+-- Streams added to idle leaves, and a board laid out afresh: what it holds, that it hangs on the weights alone, and that doing it again changes nothing.
+-- Assumes nothing.
 use mathlib.Core.Path.{_≡_, refl, sym, ap, _∙_}
 use mathlib.Core.Bool.{true}
 use mathlib.Core.List.{List}
@@ -9,12 +10,12 @@ use lib.ListN.{length, getD}
 use lib.Seq.{ext-getD}
 use borrow.Author.Tests.{ne-eqb}
 use Rattle.pieces.specs.Board.{good, weight}
-use Rattle.pieces.specs.Fresh.{rising, ranks, Placeables, largest, idle, streams, fresh}
+use Rattle.pieces.specs.Fresh.{Stream, rising, ranks, laid, Placeables, largest, idle, streams, fresh}
 use Rattle.pieces.proofs.Weight.{weight-le}
 use Rattle.pieces.proofs.Adding.{length-fill, fill-in, fill-out}
 use Rattle.pieces.proofs.Literal.{good-intro}
 use Rattle.pieces.proofs.Opened.{idle-good}
-use Rattle.pieces.proofs.Streams.{Laid, total, laid-all, placeables, ranks-own, ranks-beyond, ranks-apart, ranks-total, ranks-same, ranks-more, leaves-span}
+use Rattle.pieces.proofs.Streams.{Apart, Laid, listed, total, laid-all, placeables, ranks-own, ranks-beyond, ranks-apart, ranks-total, ranks-same, ranks-more, leaves-span}
 use Rattle.pieces.proofs.Local.{Alike, laid-local}
 
 -- The weights of idle leaves.
@@ -52,11 +53,19 @@ module _ (C : ℕ) (B : List ℕ) (few : C ≤ 4095) (long : C ≤ length B) whe
   free : (weight C (idle C B) 0 ≡ C) × ((x : ℕ) → (x ≡ 0 → ⊥) → weight C (idle C B) x ≡ 0)
   free = idle-weights C (idle C B) idle-leaf
 
+  -- Streams with names of their own, for which C leaves are enough, can be added to idle leaves one after the other,
+  pub idle-placeable : (ss : List Stream) → Apart ss → total ss ≤ C → Placeables C (idle C B) ss
+  idle-placeable ss apart enough =
+      placeables C few ss (idle C B) (omega (arith, length-fill B 0 C 0)) sound apart (λ x n h. free .1 x n) (omega (arith, free .0))
+
+  -- and make a good board, on which each name has what they give it.
+  pub idle-laid : (ss : List Stream) → Placeables C (idle C B) ss
+      → (good C (laid C (idle C B) ss) ≡ true) × ((x : ℕ) → (x ≡ 0 → ⊥) → weight C (laid C (idle C B) ss) x ≡ listed x ss)
+  idle-laid ss may = let r = laid-all C ss (idle C B) sound may in (r .sound, λ x n. omega (arith, r .weights x n, free .1 x n))
+
   -- Each of its streams can be added in its turn.
   pub fresh-placeable : Placeables C (idle C B) (streams C B)
-  fresh-placeable =
-      placeables C few (streams C B) (idle C B) (omega (arith, length-fill B 0 C 0)) sound (ranks-apart (weight C B) (largest C B) C) (λ x n h. free .1 x n)
-      (omega (arith, free .0, whole))
+  fresh-placeable = idle-placeable (streams C B) (ranks-apart (weight C B) (largest C B) C) (omega (arith, whole))
 
   all : Laid C (idle C B) (fresh C B) (streams C B)
   all = laid-all C (streams C B) (idle C B) sound fresh-placeable

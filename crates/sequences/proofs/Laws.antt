@@ -12,6 +12,7 @@ use Rattle.sequences.specs.Sequences.{wss, tss, rb}
 use Rattle.sequences.specs.Board.{digits, term, start, leafAt, passedFrom, servedFrom, nextFrom, Position}
 use Rattle.sequences.specs.Serving.{one, countIn, countList, serves, inRun, servesRun, left, leavesFrom, afterSlots, Walked}
 use Rattle.sequences.specs.Scanning.{roundLeaves}
+use Rattle.sequences.proofs.Reverse as reverse
 use Rattle.sequences.proofs.Places as places
 use Rattle.sequences.proofs.Lists as lists
 use Rattle.sequences.proofs.Stepping as stepping
@@ -124,6 +125,22 @@ round-halves = halves.round-halves
 -- They end at p = 1.
 pub round-ends : (C : ℕ) → zero < C → C < 4096 → afterSlots C 1 C ≡ 1
 round-ends = walks.round-ends
+
+-- RB of i in j digits is below 2 ^ j.
+pub rb-lt : (i j : ℕ) → rb i j < 2 ^ j
+rb-lt = reverse.rb-lt
+
+-- Reversed as a number of j + d digits, the j lowest come above and the next d below.
+pub rb-split : (i j d : ℕ) → rb i (j + d) ≡ rb i j * 2 ^ d + rb (i / 2 ^ j) d
+rb-split = reverse.rb-split
+
+-- Numbers are counted alike by tests that agree on them.
+pub count-same : (f g : ℕ → Bool) (P T : ℕ) → ((x : ℕ) → P ≤ x → x < P + T → f x ≡ g x) → countIn f P T ≡ countIn g P T
+count-same = counting.count-same
+
+-- A window of numbers that are counted, and the next one.
+pub count-append : (f : ℕ → Bool) (P S T : ℕ) → countIn f P (S + T) ≡ countIn f P S + countIn f (P + S) T
+count-append = counting.count-append
 
 -- One number more in a window of numbers that are counted.
 pub count-more : (f : ℕ → Bool) (P T : ℕ) → countIn f P (suc T) ≡ countIn f P T + one (f (P + T))

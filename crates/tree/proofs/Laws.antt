@@ -42,9 +42,13 @@ use Rattle.tree.proofs.Lettered as lettered
 -- ---- one walk, for any marks; C is 1 to 4,095 with one set digit, which a walk that is not refused has checked
 
 module _ (C : ℕ) (some : zero < C) (few : C ≤ 4095) (single : ones C ≤ 1) where
-  -- There are as many leaves as levels of inner nodes make.
+  -- There are as many leaves as levels of inner nodes make,
   pub power : C ≡ 2 ^ levels C
   power = powers.power C some few single
+
+  -- at most 11 of them.
+  pub levels-few : levels C ≤ 11
+  levels-few = let e = power in powers.exponent-le (levels C) (omega arith)
 
   -- It serves one of the C leaves.
   pub leaf-below : (M : List ℕ) → leafOf C M < C

@@ -1,9 +1,10 @@
 //! Documents 01 and 02 in plain Rust, written from the papers and from nothing else, to compare the proved library with.
 //! [`letter`] follows the papers' words and cares for nothing else; [`hand`] is what one would write for speed. [`waiting`] has the waiting list over
 //! either, [`drives`] what changes where two drives share a board, [`batch`] the
-//! table of changes, [`piece_sheets`] the sheets that list pieces, and [`tree`] the tree walk, by the letter and by hand; each of these two with its comparison.
+//! table of changes, [`piece_sheets`] the sheets that list pieces, [`groups`] a neighbour's group table, and [`tree`] the tree walk, by the letter and by hand; each of these three with its comparison.
 pub mod batch;
 pub mod drives;
+pub mod groups;
 pub mod hand;
 pub mod letter;
 pub mod piece_sheets;

@@ -305,3 +305,25 @@ unsafe extern "C" fn mandrozsi_pair_save_pieces(
     let lent = [Lent::shared(board, entries), NONE, Lent::changed(output, length)];
     ask(24, [own, other], 0, 0, lent)
 }
+#[no_mangle]
+unsafe extern "C" fn mandrozsi_import(
+    capacity: u16,
+    starts: *const u16,
+    given: usize,
+    names: *const u16,
+    streams: usize,
+    board: *mut u16,
+    entries: usize,
+    list: *mut u64,
+    numbers: usize,
+    output: *mut u16,
+    length: usize,
+) -> Reply {
+    let asked = Drive {
+        capacity,
+        ..Drive::default()
+    };
+    let (board, list, output) = (Lent::changed(board, entries), Lent::changed(list, numbers), Lent::changed(output, length));
+    let (starts, names) = (Lent::shared(starts, given), Lent::shared(names, streams));
+    ask_all(25, one(asked), 0, 0, [board, list, output, NONE, NONE, NONE, starts, names])
+}

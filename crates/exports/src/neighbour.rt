@@ -1,0 +1,43 @@
+// The function that C and Rust link for a neighbour's group table.
+ghost use mathlib.Core.Path.{_≡_};
+ghost use Rattle.groups.specs.Results as results;
+ghost use Rattle.exports.specs.Replies.{saidOf, reply};
+use crate::Reply;
+use crate::Said;
+use crate::said_done;
+use crate::said_refused;
+use crate::said_told;
+use groups::Importing;
+
+// The answer of an import.
+fn said_importing(answer: Importing) -> Said
+    ensures { λ r. ⌜ r ≡ saidOf (results.importingAnswer answer) ⌝ }
+{
+    match answer {
+        Importing::Done => said_done(0, 0, 0, 0),
+        Importing::Power => said_told(16, 0),
+        Importing::Group => said_told(18, 0),
+        Importing::Refused(why) => said_refused(why, 0),
+    }
+}
+
+// Imports a group table: its round to the start of the output, its streams to an opened board. The list is emptied.
+#[no_mangle]
+pub extern "C" fn mandrozsi_import(
+    capacity: u16,
+    starts: &[u16],
+    names: &[u16],
+    board: &mut [u16],
+    list: &mut [u64],
+    output: &mut [u16],
+) -> Reply
+    ensures { λ r. ⌜ (r ≡ reply (results.imported capacity (now (starts .entry)) (now (names .entry)) (now (board .entry)) (now (list .entry)) (now (output .entry)) .drive) (results.importedAnswer capacity (now (starts .entry)) (now (names .entry)) (now (board .entry)) (now (list .entry)) (now (output .entry)))) × (now (board .exit) ≡ results.importedBoard capacity (now (starts .entry)) (now (names .entry)) (now (board .entry)) (now (list .entry)) (now (output .entry))) × (now (list .exit) ≡ results.importedList capacity (now (starts .entry)) (now (names .entry)) (now (board .entry)) (now (list .entry)) (now (output .entry))) × (now (output .exit) ≡ results.importedOutput capacity (now (starts .entry)) (now (names .entry)) (now (board .entry)) (now (list .entry)) (now (output .entry))) ⌝ }
+{
+    let imported = groups::import(capacity, starts, names, board, list, output);
+    let after = imported.drive;
+    let answer = imported.answer;
+    Reply {
+        drive: after,
+        said: said_importing(answer),
+    }
+}

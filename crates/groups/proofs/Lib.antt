@@ -1,0 +1,11 @@
+-- What upper crates cite is Laws. The rest is inner; Examples has tables worked by hand.
+mod Windows
+mod Lists
+mod Pointers
+mod Faults
+mod Adding
+mod Checked
+mod Rounding
+mod Steps
+mod Examples
+pub mod Laws

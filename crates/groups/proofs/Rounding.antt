@@ -1,0 +1,77 @@
+-- The round of a group table: slots one after the other, and each stream once in each aligned window of slots. Assumes nothing.
+use mathlib.Core.Path.{_≡_, refl, sym, ap, ap₂, _∙_, subst}
+use mathlib.Core.List.{List, [], _∷_, _++_}
+use Prim.Native.Nat.{ℕ, zero, suc, _+_, _-_, _*_, _^_, _≤_, _<_}
+use native.Mathlib.Nat.{zero-add, add-zero}
+use native.Mathlib.Decide.{decLt}
+use native.Mathlib.Omega.{arith}
+use lib.Dec.{eqb}
+use lib.ListN.{length, getD, replicate, length-replicate, getD-replicate}
+use Rattle.sequences.specs.Sequences.{rb}
+use Rattle.sequences.specs.Serving.{countList}
+use Rattle.groups.specs.Table.{rate, count, offset, Table}
+use Rattle.groups.specs.Rounds.{listOf, moved, namesFrom, pointersAfter, roundOf, slots, Pointing}
+use Rattle.groups.proofs.Windows.{passes}
+use Rattle.groups.proofs.Lists.{met}
+use Rattle.groups.proofs.Pointers.{names-hits, after-stop, after-pointing}
+
+pub after-append : (k : ℕ) (S : List ℕ) (m n t : ℕ) (P : List ℕ) → pointersAfter k S P t (m + n) ≡ pointersAfter k S (pointersAfter k S P t m) (t + m) n
+unfolding pointersAfter
+after-append k S zero n t P = rw (zero-add n, add-zero t)
+after-append k S (suc m) n t P =
+    let e : suc m + n ≡ suc (m + n) = omega arith in
+    let d : t + suc m ≡ suc t + m = omega arith in
+    rw (e, d) (after-append k S m n (suc t) (moved k S P (rb t k)))
+
+pub names-append : (k : ℕ) (S N : List ℕ) (m n t : ℕ) (P : List ℕ)
+    → namesFrom k S N P t (m + n) ≡ namesFrom k S N P t m ++ namesFrom k S N (pointersAfter k S P t m) (t + m) n
+unfolding namesFrom pointersAfter
+names-append k S N zero n t P = rw (zero-add n, add-zero t)
+names-append k S N (suc m) n t P =
+    let e : suc m + n ≡ suc (m + n) = omega arith in
+    let d : t + suc m ≡ suc t + m = omega arith in
+    rw (e, d, names-append k S N m n (suc t) (moved k S P (rb t k)))
+
+-- m slots from t on, and n more.
+pub slots-append : (k : ℕ) (S N : List ℕ) (t m n : ℕ) → slots k S N t (m + n) ≡ slots k S N t m ++ slots k S N (t + m) n
+unfolding slots
+slots-append k S N t m n =
+    names-append k S N m n t (pointersAfter k S (replicate k 0) 0 t)
+    ∙ (let e : 0 + t ≡ t = omega arith in
+    let a : pointersAfter k S (replicate k 0) 0 (t + m) ≡ pointersAfter k S (pointersAfter k S (replicate k 0) 0 t) (0 + t) m = after-append k S t m 0 (replicate k 0) in
+    let b : pointersAfter k S (replicate k 0) 0 (t + m) ≡ pointersAfter k S (pointersAfter k S (replicate k 0) 0 t) t m = rw e at a in
+    rw b)
+
+-- The round is the first 2 ^ k slots.
+pub round-slots : (k : ℕ) (S N : List ℕ) → roundOf k S N ≡ slots k S N 0 (2 ^ k)
+unfolding roundOf slots pointersAfter
+round-slots k S N = refl
+
+pub heads : (k : ℕ) (S : List ℕ) → Pointing k S (replicate k 0)
+heads k S = record { size = length-replicate {A = ℕ} k 0; within = λ j h p. let z : _≡_ {A = ℕ} (getD (replicate k 0) j 0) 0 = getD-replicate {A = ℕ} k j 0 0 h in omega arith }
+
+module _ (k : ℕ) (S N : List ℕ) (table : Table k S N) (i p : ℕ) (h : i < k) (l : p < count k S i) where
+  -- After every aligned window the pointer is back at the head of the list.
+  pub pointer-back : (q : ℕ) → getD (pointersAfter k S (replicate k 0) 0 (q * 2 ^ suc i)) i 0 ≡ 0
+  unfolding pointersAfter
+  pointer-back zero = let e : 0 * 2 ^ suc i ≡ 0 = omega arith in rw e (getD-replicate {A = ℕ} k i 0 0 h)
+  pointer-back (suc q) =
+      let L = 2 ^ suc i in
+      let T = q * L in
+      let P = pointersAfter k S (replicate k 0) 0 T in
+      let g : Pointing k S P = after-pointing k S T 0 (replicate k 0) (heads k S) in
+      let e : suc q * L ≡ T + L = omega arith in
+      let z : 0 + T ≡ T = omega arith in
+      let w = passes (λ t. eqb (listOf S k 0 (rb t k)) i) (count k S i) p L 0 T (count k S i) (met k S N table i q h) (omega arith) in
+      rw (e, after-append k S T L 0 (replicate k 0), z, after-stop k S N table i p h l L T P g, pointer-back q) (w .round (omega arith) (omega arith))
+
+  -- A stream of list i, whose rate is 2 ^ (k - i - 1), is served once in each aligned 2 ^ (i + 1) slots, of the round and of any rounds after it.
+  pub served-once : (q : ℕ) → countList (λ y. eqb y (getD N (offset k S i + p) 0)) (slots k S N (q * 2 ^ suc i) (2 ^ suc i)) ≡ 1
+  unfolding slots
+  served-once q =
+      let L = 2 ^ suc i in
+      let T = q * L in
+      let P = pointersAfter k S (replicate k 0) 0 T in
+      let g : Pointing k S P = after-pointing k S T 0 (replicate k 0) (heads k S) in
+      let w = passes (λ t. eqb (listOf S k 0 (rb t k)) i) (count k S i) p L 0 T (count k S i) (met k S N table i q h) (omega arith) in
+      names-hits k S N table i p h l L T P g ∙ rw (pointer-back q) (w .once (omega arith) (omega arith))

@@ -1,0 +1,4 @@
+pub mod Table
+pub mod Rounds
+pub mod Results
+pub mod Promises
