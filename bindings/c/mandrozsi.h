@@ -58,7 +58,7 @@ typedef struct mandrozsi_reply {
     mandrozsi_said said;
 } mandrozsi_reply;
 
-/* An entry of a table of changes: what is asked (kind 1: add, 2: remove, which looks at no weight), and the place for its answer, the number and its
+/* An entry of a table of changes: what is asked (kind 1: add, 2: remove, which looks at no weight; with tables 3: over-allocated add), and the place for its answer, the number and its
  * value: the idle leaves of 0 and 10, the ticket of 13, and else 0. */
 typedef struct mandrozsi_entry {
     uint16_t kind;
@@ -72,10 +72,10 @@ typedef struct mandrozsi_entry {
 enum mandrozsi_number {
     MANDROZSI_DONE = 0,
     MANDROZSI_CAPACITY = 1,  /* C is 0 or above 4,095 */
-    MANDROZSI_SHORT = 2,     /* the board has fewer than C entries, or the list fewer than MANDROZSI_LIST numbers; or there are under C - 1 marks */
+    MANDROZSI_SHORT = 2,     /* the board or a table has fewer than C entries, or the list fewer than MANDROZSI_LIST numbers; or there are under C - 1 marks */
     MANDROZSI_POSITION = 3,  /* p is 0 or above 2^k - 1; of two drives also: their capacities differ */
     MANDROZSI_MIDROUND = 4,  /* p is not 1 (save, fresh, to_leaves), of two drives that of either; save_pieces: their positions differ */
-    MANDROZSI_DAMAGED = 5,   /* the board is not good: two pieces of one name, or two idle ones, have equal size */
+    MANDROZSI_DAMAGED = 5,   /* the board is not good: two pieces of one name, or two idle ones, have equal size; or the tables do not fit it */
     MANDROZSI_NAME = 6,      /* the name is 0 */
     MANDROZSI_WEIGHT = 7,    /* the weight is 0 */
     MANDROZSI_TAKEN = 8,     /* a leaf holds the name */
@@ -195,7 +195,7 @@ static inline mandrozsi_drive mandrozsi_batch(mandrozsi_drive drive, uint16_t *b
 /* Serves a slot as mandrozsi_pair_slot does, on the record where it lies: it is moved on there, and left as it was where the slot is refused. Board, list
  * and what is said are those of the call by value.
  *
- * Stack, measured on x86-64: 376 bytes where either drive is away from p = 1, 440 where both are there and no order waits, and 139 KiB where it carries out 64
+ * Stack, measured on x86-64: 376 bytes where either drive is away from p = 1, 440 where both are there and no order waits, and 35 KiB where it carries out 64
  * orders, since the board is then tested for damage (docs/MEASURED.md). A caller with less can see it coming: the list's third number, list[2], is not 0
  * while orders wait. Make the slot call that finds both drives at p = 1 and list[2] not 0 from a task with more stack, lending it the same record, board
  * and list; or let the host, which has the stack, call the changes where both drives are at p = 1, so that none ever waits. */
@@ -208,6 +208,68 @@ static inline mandrozsi_said mandrozsi_slot_here(mandrozsi_drive *drive, uint16_
     return mandrozsi_pair_slot_here(drive, *drive, board, entries, list, numbers);
 }
 
+/* Over-allocated streams. A stream that asks for it has one piece of R leaves, the smallest power of two not below its weight r, and is served r times a
+ * round, as evenly as one piece lies: at the other R - r of its leaves the slot goes to name 0. These calls are for two drives, as those above; a single
+ * drive has its record in both places. They are lent three tables beside the board and the list, arrays with an entry for each leaf that the caller keeps:
+ * `rates` has r at a stream's lowest leaf, and 0 everywhere else; `owed` has for the own drive, and `owed_other` for the other one, how far the stream's
+ * deficit is below 0, at the same leaf. (A call for the other drive is lent the two in the other order. A single drive keeps a second one of zeros.) What
+ * is beyond the C entries is never changed. Let only these calls write the tables, and give each call what the last one left.
+ *
+ * Each call is that of two drives without tables, with these differences. 2 is also for a table with fewer than C entries. Every call but open and read
+ * answers 5, slot and round too, where the board is not good, where r is above 0 anywhere but at the lowest leaf of a stream that is one piece of R leaves,
+ * where a deficit is outside its range (0 to R - 1 in the table), or not 0 where r is 0. That makes every call look at the whole board and the tables, about
+ * as long as mandrozsi_report does: where no stream is over-allocated, the calls without tables are the ones to take.
+ *
+ * mandrozsi_share_open and mandrozsi_share_read also clear the first C entries of the tables; the record is for both drives. */
+mandrozsi_reply mandrozsi_share_open(uint16_t capacity, uint16_t *board, size_t entries, uint64_t *list, size_t numbers, uint16_t *rates,
+                                     size_t rated, uint16_t *owed, size_t owing, uint16_t *owed_other, size_t other_owing);
+mandrozsi_reply mandrozsi_share_read(const uint8_t *sheet, size_t length, uint16_t *board, size_t entries, uint64_t *list, size_t numbers,
+                                     uint16_t *rates, size_t rated, uint16_t *owed, size_t owing, uint16_t *owed_other, size_t other_owing);
+
+/* Add, the over-allocated add, and remove. An over-allocated add asks for R leaves: 10, first = the idle leaves, which may exceed r, where there are fewer.
+ * A remove clears the entries of its stream, and those of every stream that tidying moves go with it. */
+mandrozsi_reply mandrozsi_share_add(mandrozsi_drive own, mandrozsi_drive other, uint16_t *board, size_t entries, uint64_t *list, size_t numbers,
+                                    uint16_t *rates, size_t rated, uint16_t *owed, size_t owing, uint16_t *owed_other, size_t other_owing,
+                                    uint16_t name, uint16_t weight);
+mandrozsi_reply mandrozsi_share_over(mandrozsi_drive own, mandrozsi_drive other, uint16_t *board, size_t entries, uint64_t *list, size_t numbers,
+                                     uint16_t *rates, size_t rated, uint16_t *owed, size_t owing, uint16_t *owed_other, size_t other_owing,
+                                     uint16_t name, uint16_t weight);
+mandrozsi_reply mandrozsi_share_remove(mandrozsi_drive own, mandrozsi_drive other, uint16_t *board, size_t entries, uint64_t *list, size_t numbers,
+                                       uint16_t *rates, size_t rated, uint16_t *owed, size_t owing, uint16_t *owed_other, size_t other_owing,
+                                       uint16_t name);
+
+/* Serves a slot of the own drive. Where the leaf is that of an over-allocated stream: if its deficit exceeds -r, it is served and r - R is added; else the
+ * slot goes to name 0, and r is added. Refused: 1 to 3, 5; then no order has been carried out. */
+mandrozsi_reply mandrozsi_share_slot(mandrozsi_drive own, mandrozsi_drive other, uint16_t *board, size_t entries, uint64_t *list, size_t numbers,
+                                     uint16_t *rates, size_t rated, uint16_t *owed, size_t owing, uint16_t *owed_other, size_t other_owing);
+
+/* Round takes every deficit as 0 and changes none. Report gives r for the weight, one piece, and the spacing over serves as round writes them. */
+mandrozsi_reply mandrozsi_share_round(mandrozsi_drive own, mandrozsi_drive other, const uint16_t *board, size_t entries, const uint16_t *rates,
+                                      size_t rated, const uint16_t *owed, size_t owing, const uint16_t *owed_other, size_t other_owing,
+                                      uint16_t *output, size_t length);
+mandrozsi_reply mandrozsi_share_report(mandrozsi_drive own, mandrozsi_drive other, const uint16_t *board, size_t entries, const uint16_t *rates,
+                                       size_t rated, const uint16_t *owed, size_t owing, const uint16_t *owed_other, size_t other_owing,
+                                       uint16_t name);
+
+/* Neither form of sheet can hold an over-allocated stream: 17, last, while one is held. Refused: 1 to 5, 11, 17. */
+mandrozsi_reply mandrozsi_share_save(mandrozsi_drive own, mandrozsi_drive other, const uint16_t *board, size_t entries, const uint16_t *rates,
+                                     size_t rated, const uint16_t *owed, size_t owing, const uint16_t *owed_other, size_t other_owing,
+                                     uint8_t *output, size_t length);
+
+/* Over-allocated streams count with R and keep r and their deficits. */
+mandrozsi_reply mandrozsi_share_fresh(mandrozsi_drive own, mandrozsi_drive other, uint16_t *board, size_t entries, uint16_t *rates, size_t rated,
+                                      uint16_t *owed, size_t owing, uint16_t *owed_other, size_t other_owing);
+
+/* In a table of changes kind 3 is the over-allocated add. */
+mandrozsi_drive mandrozsi_share_batch(mandrozsi_drive own, mandrozsi_drive other, uint16_t *board, size_t entries, uint64_t *list, size_t numbers,
+                                      uint16_t *rates, size_t rated, uint16_t *owed, size_t owing, uint16_t *owed_other, size_t other_owing,
+                                      mandrozsi_entry *table, size_t changes);
+
+/* The slot on the record where it lies. Every slot of this set tests the board, so that each takes the stack of one that carries orders out. */
+mandrozsi_said mandrozsi_share_slot_here(mandrozsi_drive *own, mandrozsi_drive other, uint16_t *board, size_t entries, uint64_t *list,
+                                         size_t numbers, uint16_t *rates, size_t rated, uint16_t *owed, size_t owing, uint16_t *owed_other,
+                                         size_t other_owing);
+
 /* Takes a neighbour's table of groups, for C = 2^k: streams in lists by rate, highest first, list i of rate 2^(k - i - 1). `starts` has the k + 1
  * starting timeslots, and `names` the streams in the order of the lists: list i holds (start i + 1 less start i) over its rate. It writes the table's own
  * round, by its rule, to the start of the output, in which each stream of rate 2^n is served once in each aligned 2^(k - n) slots; opens the board and
@@ -216,6 +278,11 @@ static inline mandrozsi_said mandrozsi_slot_here(mandrozsi_drive *drive, uint16_
  * Refused, looked for in this order: 1; 16; 2; 18; 11. A refusal leaves the board, the list and the output as they were. */
 mandrozsi_reply mandrozsi_import(uint16_t capacity, const uint16_t *starts, size_t given, const uint16_t *names, size_t streams, uint16_t *board,
                                  size_t entries, uint64_t *list, size_t numbers, uint16_t *output, size_t length);
+
+/* The same where tables are lent: their first C entries are cleared, since none of the streams is over-allocated. */
+mandrozsi_reply mandrozsi_share_import(uint16_t capacity, const uint16_t *starts, size_t given, const uint16_t *names, size_t streams, uint16_t *board,
+                                       size_t entries, uint64_t *list, size_t numbers, uint16_t *rates, size_t rated, uint16_t *owed, size_t owing,
+                                       uint16_t *owed_other, size_t other_owing, uint16_t *output, size_t length);
 
 /* Serves a slot by a second engine, for C a power of two: a walk down a tree over the leaves, from the root. At every inner node a mark of 0 becomes
  * 1 and leads left, any other becomes 0 and leads right. `marks` has one mark for each of the C - 1 inner nodes, by level, root first: those of node

@@ -22,6 +22,8 @@ enum { OPEN, ADD, REMOVE, SLOT, ROUND, REPORT, SAVE, READ, FETCH };
 enum { PAIR_ADD = 9, PAIR_REMOVE, PAIR_SLOT, PAIR_ROUND, PAIR_REPORT, PAIR_SAVE, PAIR_BATCH, PAIR_SLOT_HERE };
 enum { WALK = 17, FRESH, PAIR_FRESH };
 enum { SAVE_PIECES = 20, READ_PIECES, TO_PIECES, TO_LEAVES, PAIR_SAVE_PIECES, IMPORT };
+enum { SHARE_OPEN = 26, SHARE_READ, SHARE_ADD, SHARE_OVER, SHARE_REMOVE, SHARE_SLOT, SHARE_ROUND, SHARE_REPORT, SHARE_SAVE, SHARE_FRESH };
+enum { SHARE_BATCH = 36, SHARE_SLOT_HERE, SHARE_IMPORT };
 
 /* The slices that a call can be lent: OTHER is the output, sheet, marks or table of changes; then come the tables, and what is only read beside an
  * output: a sheet, or the starts and names of a group table. */
@@ -71,6 +73,48 @@ static void give_back(const uint8_t *slice, size_t bytes)
         end("an answer cannot be written");
 }
 
+/* The calls with tables. */
+static mandrozsi_reply share(const struct call *c, uint8_t *lent[SLICES])
+{
+    uint16_t *board = (uint16_t *)(void *)lent[BOARD], *rates = (uint16_t *)(void *)lent[RATES], *owed = (uint16_t *)(void *)lent[OWED];
+    uint16_t *owed_other = (uint16_t *)(void *)lent[OWED_OTHER], *names = (uint16_t *)(void *)lent[OTHER];
+    uint16_t *starts = (uint16_t *)(void *)lent[GIVEN], *streams = (uint16_t *)(void *)lent[NAMES];
+    uint64_t *list = (uint64_t *)(void *)lent[LIST];
+    uint8_t *other = lent[OTHER];
+    mandrozsi_entry *table = (mandrozsi_entry *)(void *)other;
+    size_t entries = c->bytes[BOARD] / 2, rated = c->bytes[RATES] / 2, owing = c->bytes[OWED] / 2, other_owing = c->bytes[OWED_OTHER] / 2;
+    size_t numbers = c->bytes[LIST] / sizeof *list, length = c->bytes[OTHER];
+    mandrozsi_drive own = {c->capacity, c->position, c->round}, partner = {c->other_capacity, c->other_position, c->other_round};
+    mandrozsi_said said;
+    switch (c->number) {
+    case SHARE_OPEN: return mandrozsi_share_open(c->capacity, board, entries, list, numbers, rates, rated, owed, owing, owed_other, other_owing);
+    case SHARE_READ: return mandrozsi_share_read(other, length, board, entries, list, numbers, rates, rated, owed, owing, owed_other, other_owing);
+    case SHARE_ADD:
+        return mandrozsi_share_add(own, partner, board, entries, list, numbers, rates, rated, owed, owing, owed_other, other_owing, c->name, c->weight);
+    case SHARE_OVER:
+        return mandrozsi_share_over(own, partner, board, entries, list, numbers, rates, rated, owed, owing, owed_other, other_owing, c->name, c->weight);
+    case SHARE_REMOVE:
+        return mandrozsi_share_remove(own, partner, board, entries, list, numbers, rates, rated, owed, owing, owed_other, other_owing, c->name);
+    case SHARE_SLOT: return mandrozsi_share_slot(own, partner, board, entries, list, numbers, rates, rated, owed, owing, owed_other, other_owing);
+    case SHARE_ROUND:
+        return mandrozsi_share_round(own, partner, board, entries, rates, rated, owed, owing, owed_other, other_owing, names, length / 2);
+    case SHARE_REPORT: return mandrozsi_share_report(own, partner, board, entries, rates, rated, owed, owing, owed_other, other_owing, c->name);
+    case SHARE_SAVE: return mandrozsi_share_save(own, partner, board, entries, rates, rated, owed, owing, owed_other, other_owing, other, length);
+    case SHARE_FRESH: return mandrozsi_share_fresh(own, partner, board, entries, rates, rated, owed, owing, owed_other, other_owing);
+    case SHARE_BATCH:
+        own = mandrozsi_share_batch(own, partner, board, entries, list, numbers, rates, rated, owed, owing, owed_other, other_owing, table,
+                                    length / sizeof *table);
+        return (mandrozsi_reply){own, {0}};
+    case SHARE_IMPORT:
+        return mandrozsi_share_import(c->capacity, starts, c->bytes[GIVEN] / 2, streams, c->bytes[NAMES] / 2, board, entries, list, numbers, rates, rated,
+                                      owed, owing, owed_other, other_owing, names, length / 2);
+    case SHARE_SLOT_HERE:
+        said = mandrozsi_share_slot_here(&own, partner, board, entries, list, numbers, rates, rated, owed, owing, owed_other, other_owing);
+        return (mandrozsi_reply){own, said};
+    }
+    end("there is no such call");
+}
+
 static mandrozsi_reply make(const struct call *c, uint8_t *lent[SLICES])
 {
     uint16_t *board = (uint16_t *)(void *)lent[BOARD];
@@ -116,7 +160,7 @@ static mandrozsi_reply make(const struct call *c, uint8_t *lent[SLICES])
         return mandrozsi_import(c->capacity, starts, c->bytes[GIVEN] / sizeof *starts, streams, c->bytes[NAMES] / sizeof *streams, board, entries, list,
                                 numbers, names, length / sizeof *names);
     }
-    end("there is no such call");
+    return share(c, lent);
 }
 
 int main(void)

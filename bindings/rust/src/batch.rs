@@ -18,7 +18,7 @@ use crate::{change_of, raw, Change, Drive, Refusal};
 #[repr(C)]
 #[derive(Clone, Copy, Debug, Default, PartialEq, Eq, Hash)]
 pub struct Entry {
-    /// 1: add; 2: remove. Any other is answered 7.
+    /// 1: add; 2: remove; 3, where tables are lent: over-allocated add. Any other is answered 7.
     pub kind: u16,
     pub name: u16,
     /// Of an add; a remove looks at none.
@@ -37,6 +37,14 @@ impl Entry {
             weight,
             number: 0,
             value: 0,
+        }
+    }
+
+    /// Asks for an over-allocated add, of [`Shares::batch`](crate::Shares::batch).
+    pub const fn over(name: u16, weight: u16) -> Entry {
+        Entry {
+            kind: 3,
+            ..Entry::add(name, weight)
         }
     }
 

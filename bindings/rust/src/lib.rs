@@ -31,12 +31,14 @@ mod convert;
 mod groups;
 mod pair;
 pub mod raw;
+mod shares;
 mod tree;
 
 pub use batch::Entry;
 pub use convert::{to_leaves, to_pieces};
 pub use groups::import;
 pub use pair::{Pair, Side};
+pub use shares::{Shares, Tables};
 pub use tree::{walk, Walked};
 
 use raw::{Reply, Said};
@@ -56,14 +58,14 @@ pub struct Drive {
 pub enum Refusal {
     /// C is 0 or above 4,095.
     Capacity,
-    /// The board has fewer than C entries, or the list fewer than [`LIST`] numbers; or a walk is lent fewer than C - 1 marks.
+    /// The board or a table has fewer than C entries, or the list fewer than [`LIST`] numbers; or a walk is lent fewer than C - 1 marks.
     Short,
     /// p is 0 or above 2^k - 1; of two drives also: their capacities differ.
     Position,
     /// p is not 1: a board is saved by its leaves, or laid out afresh, only at the start of a round, of two drives that of both; by its pieces two
     /// drives save it only where both are at one position.
     Midround,
-    /// The board is not good: two pieces of one name, or two idle ones, have equal size.
+    /// The board is not good: two pieces of one name, or two idle ones, have equal size; or the tables of over-allocated streams do not fit it.
     Damaged,
     /// The name is 0.
     Name,
@@ -157,7 +159,10 @@ impl fmt::Display for Refusal {
     fn fmt(&self, f: &mut fmt::Formatter<'_>) -> fmt::Result {
         match self {
             Refusal::Capacity => write!(f, "the capacity is 0 or above 4,095"),
-            Refusal::Short => write!(f, "the board has fewer entries than the capacity, or the list or the marks are too few"),
+            Refusal::Short => write!(
+                f,
+                "the board or a table has fewer entries than the capacity, or the list or the marks are too few"
+            ),
             Refusal::Position => write!(f, "the position is out of range"),
             Refusal::Midround => write!(f, "not at the start of a round"),
             Refusal::Damaged => write!(f, "the board is not good"),

@@ -3,7 +3,7 @@
 mod boundary;
 
 use boundary::{answer, record, Boundary};
-use mandrozsi::raw;
+use mandrozsi::{raw, Shares, Tables};
 use paper::groups::{compare, Import, Lent};
 use paper::{at, Answer};
 
@@ -31,8 +31,33 @@ impl Import for Safe {
     }
 }
 
+/// With tables as long as the board, which an import that is done clears and a refused one leaves.
+struct WithTables;
+
+impl Import for WithTables {
+    fn import(&self, capacity: u16, starts: &[u16], names: &[u16], lent: &mut Lent) -> Answer {
+        let long = lent.board.len();
+        let (mut rates, mut first, mut second) = (vec![3; long], vec![4; long], vec![5; long]);
+        let mut tables = Tables {
+            rates: &mut rates,
+            first: &mut first,
+            second: &mut second,
+        };
+        let result = Shares::import(capacity, (starts, names), &mut lent.board, &mut lent.list, &mut tables, &mut lent.output);
+        let cleared = if result.is_ok() { capacity.into() } else { 0 };
+        for (table, old) in [(rates, 3), (first, 4), (second, 5)] {
+            assert!(table[..cleared].iter().all(|&x| x == 0) && table[cleared..].iter().all(|&x| x == old));
+        }
+        match result {
+            Ok(shares) => Answer::done(record(shares.first), [0; 4]),
+            Err(why) => Answer::refused(at(0, 0), why.number()),
+        }
+    }
+}
+
 #[test]
 fn the_import_is_the_letter() {
     println!("the boundary: {} imports compared", compare(&Boundary, 3000));
     println!("the safe types: {} imports compared", compare(&Safe, 500));
+    println!("with tables: {} imports compared", compare(&WithTables, 500));
 }

@@ -38,7 +38,7 @@ use Rattle.amended.proofs.Answering.{clash, TakenBy, lent-within, bound
 pub not-five : (ns : List ℕ) (n : ℕ) → zeroOr n ns ≡ true → zeroOr 5 ns ≡ false → n ≡ 5 → ⊥
 not-five ns n m f e = clash (eq-eqb n 5 e) (other-number ns n 5 m f)
 
-taken-not : (L : List ℕ) → takenAnswer L .number ≡ 5 → ⊥
+pub taken-not : (L : List ℕ) → takenAnswer L .number ≡ 5 → ⊥
 taken-not L h = by-bool (full L) (λ t. let z = rw t at h in omega arith) (λ t. let z = rw t at h in omega arith)
 
 -- on a good board an order that waits is not refused for it

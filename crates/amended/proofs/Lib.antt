@@ -1,4 +1,4 @@
--- The demands as amended stand in Demands, for two drives in TwoDemands, and for tables of changes in Batches. The rest is inner.
+-- The demands as amended stand in Demands, for two drives in TwoDemands, and for tables of changes in Batches; Laws has what crates above cite. The rest is inner.
 mod Projecting
 mod Carrying
 mod Projection
@@ -21,5 +21,6 @@ mod TurnPromised
 pub mod Demands
 pub mod TwoDemands
 pub mod Batches
+pub mod Laws
 mod Examples
 mod TurnExamples

@@ -79,7 +79,7 @@ module _ (a b : Drive) (ec : a .capacity ≡ b .capacity) (ep : a .position ≡ 
   one-held : (hs : List Stream) (B : List ℕ) (o : Order) → heldFrom hs (log (stateAt a B) (actOf o)) ≡ heldFrom hs (log (stateAt b B) (actOf o))
   one-held hs B o = rw (order-held a B hs o, order-held b B hs o, answer-alike a b ec ep B o) refl
 
-  held-alike : (B : List ℕ) (hs : List Stream) (os : List Order) → heldFrom hs (log (stateAt a B) (actsOf os)) ≡ heldFrom hs (log (stateAt b B) (actsOf os))
+  pub held-alike : (B : List ℕ) (hs : List Stream) (os : List Order) → heldFrom hs (log (stateAt a B) (actsOf os)) ≡ heldFrom hs (log (stateAt b B) (actsOf os))
   unfolding actsOf
   held-alike B hs [] = none-held B hs a b
   held-alike B hs (o ∷ os) =

@@ -52,21 +52,21 @@ unfolding startCheck
 four-within a b B ns c m z = behind-within a b B ns (refuseIf (not (bothStart a b)) Midround Clear) c (if-within ns (not (bothStart a b)) Midround Clear m z)
 
 -- An order that is to wait is answered 5, 6 or 7; a remove has no weight.
-add-order : (C : ℕ) (B : List ℕ) (x w : ℕ) → Within (5 ∷ 6 ∷ 7 ∷ []) (orderCheck C B (addOrder x w))
+pub add-order : (C : ℕ) (B : List ℕ) (x w : ℕ) → Within (5 ∷ 6 ∷ 7 ∷ []) (orderCheck C B (addOrder x w))
 unfolding orderCheck zeroOr
 add-order C B x w =
     let ns : List ℕ = 5 ∷ 6 ∷ 7 ∷ [] in
     let light = refuseIf (eqb w 0) Weight Clear in
     if-within ns (not (good C B)) Damaged (refuseIf (eqb x 0) Name light) refl (if-within ns (eqb x 0) Name light refl (if-within ns (eqb w 0) Weight Clear refl refl))
 
-remove-order : (C : ℕ) (B : List ℕ) (x : ℕ) → Within (5 ∷ 6 ∷ []) (orderCheck C B (removeOrder x))
+pub remove-order : (C : ℕ) (B : List ℕ) (x : ℕ) → Within (5 ∷ 6 ∷ []) (orderCheck C B (removeOrder x))
 unfolding orderCheck zeroOr
 remove-order C B x =
     let ns : List ℕ = 5 ∷ 6 ∷ [] in
     if-within ns (not (good C B)) Damaged (refuseIf (eqb x 0) Name Clear) refl (if-within ns (eqb x 0) Name Clear refl refl)
 
 -- At position 1 the checks of a call of one drive do not find MIDROUND.
-start-within : (ns : List ℕ) (rs : List Refusal) (q : Asked) → ascending 0 rs ≡ true → covers (4 ∷ ns) (numbers rs) ≡ true → q .position ≡ 1 → Within ns (firstOf rs q)
+pub start-within : (ns : List ℕ) (rs : List Refusal) (q : Asked) → ascending 0 rs ≡ true → covers (4 ∷ ns) (numbers rs) ≡ true → q .position ≡ 1 → Within ns (firstOf rs q)
 unfolding zeroOr applies
 start-within ns rs q o c p = go (firstOf rs q) refl (part-within (4 ∷ ns) (numbers rs) (firstOf rs q) c (first-within rs q))
   where
@@ -89,7 +89,7 @@ pub record AtOnce (a b : Drive) (B L : List ℕ) : Type 0 where
   pub other : b .position ≡ 1
   pub none : ordersIn L ≡ 0
 
-way-now : (k : Check) (begins some : Bool) (j : Check) → wayBy k (cond begins some true) j ≡ way.Now → (k ≡ Clear) × (begins ≡ true) × (some ≡ false)
+pub way-now : (k : Check) (begins some : Bool) (j : Check) → wayBy k (cond begins some true) j ≡ way.Now → (k ≡ Clear) × (begins ≡ true) × (some ≡ false)
 way-now (Refused r) begins some j e = let z : _≡_ {A = ℕ} 0 1 = cc in absurd (omega arith)
 way-now Clear true false j e = (refl, refl, refl)
 way-now Clear true true Clear e = let z : _≡_ {A = ℕ} 0 1 = cc in absurd (omega arith)
@@ -111,7 +111,7 @@ now-both a b B L o e =
     let p = start-both a b (f .1) in
     record { clear = f .0; starts = f .1; own = p .0; other = p .1; none = omega (arith, ltb-false 0 (ordersIn L) (f .2)) }
 
-way-within : (ns : List ℕ) (k : Check) (waits : Bool) (j : Check) (r : Refusal) → Within ns k → Within ns j → wayBy k waits j ≡ way.Refused r → zeroOr (numberOf r) ns ≡ true
+pub way-within : (ns : List ℕ) (k : Check) (waits : Bool) (j : Check) (r : Refusal) → Within ns k → Within ns j → wayBy k waits j ≡ way.Refused r → zeroOr (numberOf r) ns ≡ true
 way-within ns (Refused q) waits j r m n e = let z : q ≡ r = cc in rw (← z) m
 way-within ns Clear false j r m n e = let z : _≡_ {A = ℕ} 0 1 = cc in absurd (omega arith)
 way-within ns Clear true Clear r m n e = let z : _≡_ {A = ℕ} 0 1 = cc in absurd (omega arith)
@@ -149,7 +149,7 @@ module _ (a b : Drive) (B L : List ℕ) where
 
 -- ---- a change that is not done
 
-carried-still : (d : Drive) (B : List ℕ) (o : Order) → (carriedAnswer d B o .number ≡ 0 → ⊥) → carriedBoard d B o ≡ B
+pub carried-still : (d : Drive) (B : List ℕ) (o : Order) → (carriedAnswer d B o .number ≡ 0 → ⊥) → carriedBoard d B o ≡ B
 unfolding carriedAnswer carriedBoard
 carried-still d B o h = by-bool (eqb (o .kind) 1)
     (λ t. let f = refusal (addCheck d B (o .name) (o .weight)) (rw t at h) .1 in rw (t, f) refl)

@@ -52,6 +52,9 @@ pub use Rattle.drives.proofs.Alike.{add-alike, remove-alike, carried-al
 -- ---- what is made at once: the first checks are clear, both drives are at the start of a round, and no order waits. The numbers that are answered
 
 pub use Rattle.drives.proofs.Answering.{AtOnce, start-both, now-both, pair-within, add-answers, remove-answers}
+-- ---- for calls that have more to check: the numbers of an order that is to wait, of a way, and of a call at position 1; and an order that is not done changes nothing
+
+pub use Rattle.drives.proofs.Answering.{add-order, remove-order, way-now, way-within, start-within, carried-still}
 
 -- Records that pass the checks together and are both at the start of a round have equal C and p.
 pub both-alike : (a b : Drive) (B : List ℕ) (n : ℕ) → listCheck a b B n ≡ Clear → bothStart a b ≡ true → (a .capacity ≡ b .capacity) × (a .position ≡ b .position)

@@ -20,7 +20,8 @@ use sheets::Saved;
 use sheets::Saving;
 use waiting::Order;
 
-fn larger(m: usize, n: usize) -> usize
+// The larger of two capacities.
+pub fn larger(m: usize, n: usize) -> usize
     ensures { λ r. ⌜ r ≡ max m n ⌝ }
 {
     if m < n { n } else { m }

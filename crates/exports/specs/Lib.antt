@@ -1,2 +1,4 @@
 pub mod Replies
 pub mod Promises
+pub mod Serving
+pub mod Tables

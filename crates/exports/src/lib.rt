@@ -1,6 +1,6 @@
 // The functions that C and Rust link: every call on a slot board with its waiting list, and save and read; in `pair` those for two drives on one board, in
-// `engine` the tree walk, in `listing` the sheets that list pieces, in `neighbour` a group table. A slice is a pointer and then
-// a length.
+// `sharing` and `walks` those with the tables of over-allocated streams, in `engine` the tree walk, in `listing` the sheets that list pieces, in `neighbour` a group
+// table. A slice is a pointer and then a length.
 ghost use mathlib.Core.Path.{_≡_};
 ghost use lib.ListN.{length};
 ghost use Rattle.calls.specs.Answers.{openingAnswer, servingAnswer, roundingAnswer, refreshingAnswer, reportAnswer};
@@ -26,6 +26,8 @@ pub mod engine;
 pub mod listing;
 pub mod neighbour;
 pub mod pair;
+pub mod sharing;
+pub mod walks;
 
 // What a call says: the answer's number, 0 for done, and its values in the order of document 01; a value that an answer does not have is 0. 64 bits each, so
 // that every value there is has room: a leaf, a round number, a ticket.

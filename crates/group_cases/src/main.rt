@@ -13,10 +13,10 @@ struct Lent {
 }
 
 // The cases, one after the other: C; how much is lent of the board, the list and the output; how many starts, and these; how many names, and these.
-// First tables without a fault. Then 1 before 16, 16 before 2, 2 before 18, for the board and for the list. Then 18 before 11: too few starts, too many, the first
-// not 0, one below the one before, a difference that is no multiple of the rate; too few names, too many, rates above C, a name 0, a name twice. Last 18 with C = 1, and 11.
+// First tables without a fault; then each refusal with the next one applying too.
 fn cases() -> [u16; 310] {
     [
+        // the source's example
         16,
         17,
         259,
@@ -33,6 +33,7 @@ fn cases() -> [u16; 310] {
         3,
         4,
         5,
+        // C = 1
         1,
         17,
         259,
@@ -40,6 +41,7 @@ fn cases() -> [u16; 310] {
         1,
         0,
         0,
+        // three streams of rate 1
         4,
         17,
         259,
@@ -52,6 +54,7 @@ fn cases() -> [u16; 310] {
         1,
         2,
         3,
+        // full, of two names
         2,
         17,
         259,
@@ -62,6 +65,7 @@ fn cases() -> [u16; 310] {
         2,
         7,
         65535,
+        // no stream
         2,
         17,
         259,
@@ -70,6 +74,7 @@ fn cases() -> [u16; 310] {
         0,
         0,
         0,
+        // full, of three rates
         8,
         17,
         259,
@@ -84,6 +89,7 @@ fn cases() -> [u16; 310] {
         8,
         7,
         6,
+        // a list without a stream between others
         16,
         17,
         259,
@@ -99,6 +105,7 @@ fn cases() -> [u16; 310] {
         30,
         20,
         10,
+        // full, of the highest rate
         16,
         17,
         259,
@@ -112,18 +119,21 @@ fn cases() -> [u16; 310] {
         2,
         2,
         1,
+        // 1, and all that may be wrong is
         0,
         0,
         0,
         0,
         0,
         0,
+        // 1 before 16
         4096,
         0,
         0,
         0,
         0,
         0,
+        // 1 with everything long enough
         65535,
         17,
         259,
@@ -132,12 +142,14 @@ fn cases() -> [u16; 310] {
         0,
         1,
         0,
+        // 16 before 2
         6,
         0,
         0,
         0,
         0,
         0,
+        // 2 for the board, before 18
         16,
         15,
         259,
@@ -145,6 +157,7 @@ fn cases() -> [u16; 310] {
         0,
         1,
         0,
+        // 2 for the list, before 18
         16,
         16,
         258,
@@ -152,6 +165,7 @@ fn cases() -> [u16; 310] {
         0,
         1,
         0,
+        // 18: too few starts
         16,
         17,
         259,
@@ -166,6 +180,7 @@ fn cases() -> [u16; 310] {
         2,
         3,
         4,
+        // too many
         16,
         17,
         259,
@@ -183,6 +198,7 @@ fn cases() -> [u16; 310] {
         3,
         4,
         5,
+        // the first is not 0
         16,
         17,
         259,
@@ -197,6 +213,7 @@ fn cases() -> [u16; 310] {
         3,
         4,
         5,
+        // one is below the one before
         16,
         17,
         259,
@@ -210,6 +227,7 @@ fn cases() -> [u16; 310] {
         2,
         1,
         5,
+        // a difference is no multiple of the rate
         16,
         17,
         259,
@@ -225,6 +243,7 @@ fn cases() -> [u16; 310] {
         2,
         3,
         4,
+        // too few names
         16,
         17,
         259,
@@ -240,6 +259,7 @@ fn cases() -> [u16; 310] {
         2,
         3,
         4,
+        // too many
         16,
         17,
         259,
@@ -257,6 +277,7 @@ fn cases() -> [u16; 310] {
         4,
         5,
         6,
+        // rates above C
         16,
         17,
         259,
@@ -272,22 +293,7 @@ fn cases() -> [u16; 310] {
         2,
         3,
         4,
-        16,
-        17,
-        259,
-        15,
-        5,
-        0,
-        0,
-        8,
-        12,
-        13,
-        5,
-        1,
-        2,
-        3,
-        0,
-        5,
+        // a name 0
         16,
         17,
         259,
@@ -302,8 +308,26 @@ fn cases() -> [u16; 310] {
         1,
         2,
         3,
+        0,
+        5,
+        // a name twice
+        16,
+        17,
+        259,
+        15,
+        5,
+        0,
+        0,
+        8,
+        12,
+        13,
+        5,
+        1,
+        2,
+        3,
         4,
         1,
+        // 18 with C = 1
         1,
         17,
         259,
@@ -311,6 +335,7 @@ fn cases() -> [u16; 310] {
         1,
         1,
         0,
+        // 11
         16,
         17,
         259,

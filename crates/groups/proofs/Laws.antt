@@ -17,6 +17,9 @@ use Rattle.calls.specs.Refusals.{zeroOr, applies, askedOpen, askedOutput}
 use Rattle.calls.specs.Results.{idleBoard}
 use Rattle.calls.specs.declared.Refusal.the-variants.{Capacity, Output}
 use Rattle.calls.proofs.Laws.{by-bool, unique, Refuses, refuses, idle-opened}
+use Rattle.tables.specs.Sharing.{fits}
+use Rattle.tables.specs.Settling.{clearedTable}
+use Rattle.tables.proofs.Laws.{cleared-fits}
 use Rattle.demands.proofs.Laws.{Openable, opens, reach, log, stateAt, addsOf, AllDone, opened-adds}
 use Rattle.tree.specs.Marks.{levels}
 use Rattle.groups.specs.Table.{rate, count, offset, tableStreams, faulty, Table}
@@ -29,9 +32,9 @@ use Rattle.groups.proofs.Adding.{stream-rate}
 use Rattle.groups.proofs.Checked.{Importable, importable, import-placeable, shares-plain}
 -- Tables worked by hand. They are computed before any law is proved, so that a wrong rule falls on them first.
 pub use Rattle.groups.proofs.Examples.{source, three, three-imported}
--- `served-once`: a stream of list i, whose rate is 2 ^ (k - i - 1), is served once in each aligned 2 ^ (i + 1) slots of the round and of any rounds after it. The
--- round is the first C slots (`round-slots`).
-pub use Rattle.groups.proofs.Rounding.{slots-append, round-slots, pointer-back, served-once}
+-- `round-served`: in the round every stream of rate 2 ^ n is served once in each aligned 2 ^ (k - n) slots. `served-once`: so is a stream of list i, whose rate is
+-- 2 ^ (k - i - 1), in each aligned 2 ^ (i + 1) slots of any rounds one after the other; the first C of these are the round (`round-slots`).
+pub use Rattle.groups.proofs.Rounding.{slots-append, slots-length, round-slots, round-part, rate-power, pointer-back, served-once, round-served}
 -- 18 is given just where the table is not one without a fault.
 pub use Rattle.groups.proofs.Faults.{faultless, faultless-back}
 
@@ -142,3 +145,7 @@ module _ (C : ℕ) (S N B T D D′ L O : List ℕ) where
   -- Where it is made, so is the import without tables: its record, board, list and output are those, and all laws of them hold.
   pub shares-made : findsShares C S N B T D D′ L O ≡ Clear → finds C S N B L O ≡ Clear
   shares-made = shares-plain C S N B T D D′ L O
+
+  -- The tables fit the imported board: no stream of it is over-allocated.
+  pub shares-fit : findsShares C S N B T D D′ L O ≡ Clear → fits C (madeBoard C S N B) (clearedTable C T) (clearedTable C D ∷ clearedTable C D′ ∷ []) ≡ true
+  shares-fit e = cleared-fits C (madeBoard C S N B) T (D ∷ D′ ∷ []) (import-good C S N B L O (shares-made e))

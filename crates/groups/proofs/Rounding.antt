@@ -2,11 +2,13 @@
 use mathlib.Core.Path.{_≡_, refl, sym, ap, ap₂, _∙_, subst}
 use mathlib.Core.List.{List, [], _∷_, _++_}
 use Prim.Native.Nat.{ℕ, zero, suc, _+_, _-_, _*_, _^_, _≤_, _<_}
-use native.Mathlib.Nat.{zero-add, add-zero}
+use native.Mathlib.Nat.{zero-add, add-zero, mul-le-mul-right}
 use native.Mathlib.Decide.{decLt}
 use native.Mathlib.Omega.{arith}
 use lib.Dec.{eqb}
-use lib.ListN.{length, getD, replicate, length-replicate, getD-replicate}
+use lib.ListN.{length, getD, take, drop, replicate, length-replicate, getD-replicate}
+use lib.Pow.{pow-add}
+use lib.Seq.{take-at, drop-at}
 use Rattle.sequences.specs.Sequences.{rb}
 use Rattle.sequences.specs.Serving.{countList}
 use Rattle.groups.specs.Table.{rate, count, offset, Table}
@@ -47,6 +49,31 @@ pub round-slots : (k : ℕ) (S N : List ℕ) → roundOf k S N ≡ slots k S N 0
 unfolding roundOf slots pointersAfter
 round-slots k S N = refl
 
+pub names-length : (k : ℕ) (S N : List ℕ) (n t : ℕ) (P : List ℕ) → length (namesFrom k S N P t n) ≡ n
+unfolding namesFrom
+names-length k S N zero t P = refl
+names-length k S N (suc n) t P = ap suc (names-length k S N n (suc t) (moved k S P (rb t k)))
+
+pub slots-length : (k : ℕ) (S N : List ℕ) (t n : ℕ) → length (slots k S N t n) ≡ n
+unfolding slots
+slots-length k S N t n = names-length k S N n t (pointersAfter k S (replicate k 0) 0 t)
+
+-- n slots of the round from slot a on.
+pub round-part : (k : ℕ) (S N : List ℕ) (a n : ℕ) → a + n ≤ 2 ^ k → take n (drop a (roundOf k S N)) ≡ slots k S N a n
+round-part k S N a n h =
+    let r = 2 ^ k - (a + n) in
+    let e : 2 ^ k ≡ a + (n + r) = omega arith in
+    let z : 0 + a ≡ a = omega arith in
+    let later : slots k S N (0 + a) (n + r) ≡ slots k S N a n ++ slots k S N (a + n) r = rw z (slots-append k S N a n r) in
+    let parts : roundOf k S N ≡ slots k S N 0 a ++ (slots k S N a n ++ slots k S N (a + n) r) =
+    round-slots k S N ∙ ap (slots k S N 0) e ∙ slots-append k S N 0 a (n + r) ∙ ap (λ (l : List ℕ). slots k S N 0 a ++ l) later in
+    rw (parts, drop-at (slots k S N 0 a) (slots k S N a n ++ slots k S N (a + n) r) a (slots-length k S N 0 a))
+    (take-at (slots k S N a n) (slots k S N (a + n) r) n (slots-length k S N a n))
+
+-- The list of the rate 2 ^ n.
+pub rate-power : (k n : ℕ) → n < k → rate k (k - suc n) ≡ 2 ^ n
+rate-power k n h = let e : k - suc (k - suc n) ≡ n = omega arith in ap (λ (x : ℕ). 2 ^ x) e
+
 pub heads : (k : ℕ) (S : List ℕ) → Pointing k S (replicate k 0)
 heads k S = record { size = length-replicate {A = ℕ} k 0; within = λ j h p. let z : _≡_ {A = ℕ} (getD (replicate k 0) j 0) 0 = getD-replicate {A = ℕ} k j 0 0 h in omega arith }
 
@@ -75,3 +102,17 @@ module _ (k : ℕ) (S N : List ℕ) (table : Table k S N) (i p : ℕ) (h : i < k
       let g : Pointing k S P = after-pointing k S T 0 (replicate k 0) (heads k S) in
       let w = passes (λ t. eqb (listOf S k 0 (rb t k)) i) (count k S i) p L 0 T (count k S i) (met k S N table i q h) (omega arith) in
       names-hits k S N table i p h l L T P g ∙ rw (pointer-back q) (w .once (omega arith) (omega arith))
+
+-- In the round every stream of rate 2 ^ n is served once in each aligned 2 ^ (k - n) slots.
+pub round-served : (k : ℕ) (S N : List ℕ) → Table k S N → (n p q : ℕ) → n < k → p < count k S (k - suc n) → q < 2 ^ n
+    → countList (λ y. eqb y (getD N (offset k S (k - suc n) + p) 0)) (take (2 ^ (k - n)) (drop (q * 2 ^ (k - n)) (roundOf k S N))) ≡ 1
+round-served k S N table n p q h l b =
+    let L = 2 ^ (k - n) in
+    let i = k - suc n in
+    let e : suc (k - suc n) ≡ k - n = omega arith in
+    let d : k ≡ n + (k - n) = omega arith in
+    let z : 2 ^ k ≡ 2 ^ n * L = ap (λ (x : ℕ). 2 ^ x) d ∙ pow-add 2 n (k - n) in
+    let m : suc q * L ≤ 2 ^ n * L = mul-le-mul-right L b in
+    rw (round-part k S N (q * L) L (omega arith))
+    (subst (λ (x : ℕ). countList (λ y. eqb y (getD N (offset k S i + p) 0)) (slots k S N (q * 2 ^ x) (2 ^ x)) ≡ 1) e
+    (served-once k S N table i p (omega arith) l q))

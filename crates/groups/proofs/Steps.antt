@@ -17,7 +17,7 @@ use Rattle.groups.specs.Table.{rate, count, offset, Table}
 use Rattle.groups.specs.Rounds.{listOf, next, slotName, moved, namesFrom, pointersAfter, roundOf, Pointing}
 use Rattle.groups.proofs.Lists.{starts-mono}
 use Rattle.groups.proofs.Pointers.{next-within, met-some, offset-next, offset-le}
-use Rattle.groups.proofs.Rounding.{names-append, after-append}
+use Rattle.groups.proofs.Rounding.{names-append, after-append, names-length}
 
 -- ---- reversing
 
@@ -86,11 +86,6 @@ offset-start k S N table (suc j) h =
 -- ---- slots in a row
 
 module _ (k : ℕ) (S N P : List ℕ) where
-  names-length : (n t : ℕ) (P : List ℕ) → length (namesFrom k S N P t n) ≡ n
-  unfolding namesFrom
-  names-length zero t P = refl
-  names-length (suc n) t P = ap suc (names-length n (suc t) (moved k S P (rb t k)))
-
   pub after-more : (n : ℕ) → moved k S (pointersAfter k S P 0 n) (rb n k) ≡ pointersAfter k S P 0 (n + 1)
   unfolding pointersAfter
   after-more n = let z : 0 + n ≡ n = omega arith in sym (after-append k S n 1 0 P ∙ rw z)
@@ -110,7 +105,7 @@ module _ (k : ℕ) (S N P : List ℕ) where
       let v = slotName k S N (pointersAfter k S P 0 n) (rb n k) in
       let z : 0 + n ≡ n = omega arith in
       let m : namesFrom k S N P 0 (n + 1) ≡ xs ++ (v ∷ []) = names-append k S N n 1 0 P ∙ rw z in
-      rw (m, add-one n, drop-cons O n 0 h, set-at xs (getD O n 0) (drop (suc n) O) v n (names-length n 0 P)) (sym (append-assoc xs (v ∷ []) (drop (suc n) O)))
+      rw (m, add-one n, drop-cons O n 0 h, set-at xs (getD O n 0) (drop (suc n) O) v n (names-length k S N n 0 P)) (sym (append-assoc xs (v ∷ []) (drop (suc n) O)))
 
 pub next-more : (c p : ℕ) → p + 1 < c → p + 1 ≡ next c p
 next-more c p h = let l : suc p < c = omega arith in rw (lt-ltb (suc p) c l) (add-one p)

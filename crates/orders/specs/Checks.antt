@@ -49,11 +49,12 @@ shortBy (Refused r) = r
 abbrev pub shortList : List ℕ → List ℕ → Refusal
 shortList s B = shortBy (startCheck s B)
 
--- An order that is to wait: 5, 6, 7. A remove has no weight.
+-- An order that is to wait: 6, 7, which are of its words alone, and with them 5. A remove has no weight.
+abbrev pub wordsCheck : Order → Check
+wordsCheck o = refuseIf (eqb (o .name) 0) Name (refuseIf (cond (eqb (o .kind) 2) false (eqb (o .weight) 0)) Weight Clear)
+
 unfoldable pub orderCheck : ℕ → List ℕ → Order → Check
-orderCheck C B o =
-    refuseIf (not (good C B)) Damaged (refuseIf (eqb (o .name) 0) Name
-    (refuseIf (cond (eqb (o .kind) 2) false (eqb (o .weight) 0)) Weight Clear))
+orderCheck C B o = refuseIf (not (good C B)) Damaged (wordsCheck o)
 
 -- A change waits if no round begins here, or if orders wait.
 abbrev pub waitsIf : Bool → List ℕ → Bool

@@ -62,7 +62,7 @@ pub fn carry_out(found: Check, drive: Drive, board: &mut [u16], order: Order) ->
 }
 
 // An answer as it is kept on the list.
-fn as_kept(change: Change) -> Outcome
+pub fn as_kept(change: Change) -> Outcome
     ensures { λ r. ⌜ r ≡ answers.outcomeOf change ⌝ }
 {
     match change {
@@ -82,7 +82,7 @@ fn as_kept(change: Change) -> Outcome
 }
 
 // The answer of a change that is made at once.
-fn made(change: Change) -> Ordering
+pub fn made(change: Change) -> Ordering
     ensures { λ r. ⌜ r ≡ answers.made change ⌝ }
 {
     match change {
@@ -93,7 +93,7 @@ fn made(change: Change) -> Ordering
 }
 
 // The answer of a change that goes on the list.
-fn listed(taking: Taking) -> Ordering
+pub fn listed(taking: Taking) -> Ordering
     ensures { λ r. ⌜ r ≡ answers.listed taking ⌝ }
 {
     match taking {
@@ -181,28 +181,35 @@ fn check_bounds(drive: Drive, board: &[u16], list: usize) -> Check
     }
 }
 
+// The refusals 6 and 7, of an order that is to wait.
+pub fn check_words(order: Order) -> Check
+    ensures { λ r. ⌜ r ≡ checks.wordsCheck order ⌝ }
+{
+    if order.name == 0 {
+        return Check::Refused(Refusal::Name);
+    }
+    if order.kind == 2 {
+        return Check::Clear;
+    }
+    if order.weight == 0 {
+        return Check::Refused(Refusal::Weight);
+    }
+    Check::Clear
+}
+
 // The refusals 5 to 7, of an order that is to wait.
 fn check_order(board: &[u16], c: usize, order: Order) -> Check
     requires { ⌜ (c ≤ length (now board)) × (c ≤ 4095) ⌝ }
     ensures { λ r. ⌜ r ≡ checks.orderCheck c (now (board .entry)) order ⌝ }
 {
     if pieces::good(board, c) {
-        if order.name == 0 {
-            return Check::Refused(Refusal::Name);
-        }
-        if order.kind == 2 {
-            return Check::Clear;
-        }
-        if order.weight == 0 {
-            return Check::Refused(Refusal::Weight);
-        }
-        return Check::Clear;
+        return check_words(order);
     }
     Check::Refused(Refusal::Damaged)
 }
 
 // Whether a change goes on the list.
-fn must_wait(begins: bool, list: &[u64]) -> bool
+pub fn must_wait(begins: bool, list: &[u64]) -> bool
     requires { ⌜ 259 ≤ length (now list) ⌝ }
     ensures { λ r. ⌜ r ≡ checks.waitsIf begins (now (list .entry)) ⌝ }
 {

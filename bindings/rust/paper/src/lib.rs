@@ -1,7 +1,7 @@
 //! Documents 01 and 02 in plain Rust, written from the papers and from nothing else, to compare the proved library with.
 //! [`letter`] follows the papers' words and cares for nothing else; [`hand`] is what one would write for speed. [`waiting`] has the waiting list over
 //! either, [`drives`] what changes where two drives share a board, [`batch`] the
-//! table of changes, [`piece_sheets`] the sheets that list pieces, [`groups`] a neighbour's group table, and [`tree`] the tree walk, by the letter and by hand; each of these three with its comparison.
+//! table of changes, [`shares`] the tables of over-allocated streams, [`piece_sheets`] the sheets that list pieces, [`groups`] a neighbour's group table, and [`tree`] the tree walk, by the letter and by hand; each of these three with its comparison.
 pub mod batch;
 pub mod drives;
 pub mod groups;
@@ -9,6 +9,8 @@ pub mod hand;
 pub mod letter;
 pub mod piece_sheets;
 pub mod random;
+pub mod shared_trial;
+pub mod shares;
 pub mod tree;
 pub mod trial;
 pub mod waiting;

@@ -327,3 +327,369 @@ unsafe extern "C" fn mandrozsi_import(
     let (starts, names) = (Lent::shared(starts, given), Lent::shared(names, streams));
     ask_all(25, one(asked), 0, 0, [board, list, output, NONE, NONE, NONE, starts, names])
 }
+#[no_mangle]
+unsafe extern "C" fn mandrozsi_share_open(
+    capacity: u16,
+    board: *mut u16,
+    entries: usize,
+    list: *mut u64,
+    numbers: usize,
+    rates: *mut u16,
+    rated: usize,
+    owed: *mut u16,
+    owing: usize,
+    owed_other: *mut u16,
+    other_owing: usize,
+) -> Reply {
+    let lent = [
+        Lent::changed(board, entries),
+        Lent::changed(list, numbers),
+        NONE,
+        Lent::changed(rates, rated),
+        Lent::changed(owed, owing),
+        Lent::changed(owed_other, other_owing),
+        NONE,
+        NONE,
+    ];
+    let asked = Drive {
+        capacity,
+        ..Drive::default()
+    };
+    ask_all(26, one(asked), 0, 0, lent)
+}
+#[no_mangle]
+unsafe extern "C" fn mandrozsi_share_read(
+    sheet: *const u8,
+    length: usize,
+    board: *mut u16,
+    entries: usize,
+    list: *mut u64,
+    numbers: usize,
+    rates: *mut u16,
+    rated: usize,
+    owed: *mut u16,
+    owing: usize,
+    owed_other: *mut u16,
+    other_owing: usize,
+) -> Reply {
+    let lent = [
+        Lent::changed(board, entries),
+        Lent::changed(list, numbers),
+        Lent::shared(sheet, length),
+        Lent::changed(rates, rated),
+        Lent::changed(owed, owing),
+        Lent::changed(owed_other, other_owing),
+        NONE,
+        NONE,
+    ];
+    ask_all(27, one(Drive::default()), 0, 0, lent)
+}
+#[no_mangle]
+unsafe extern "C" fn mandrozsi_share_add(
+    own: Drive,
+    other: Drive,
+    board: *mut u16,
+    entries: usize,
+    list: *mut u64,
+    numbers: usize,
+    rates: *mut u16,
+    rated: usize,
+    owed: *mut u16,
+    owing: usize,
+    owed_other: *mut u16,
+    other_owing: usize,
+    name: u16,
+    weight: u16,
+) -> Reply {
+    let lent = [
+        Lent::changed(board, entries),
+        Lent::changed(list, numbers),
+        NONE,
+        Lent::changed(rates, rated),
+        Lent::changed(owed, owing),
+        Lent::changed(owed_other, other_owing),
+        NONE,
+        NONE,
+    ];
+    ask_all(28, [own, other], name, weight, lent)
+}
+#[no_mangle]
+unsafe extern "C" fn mandrozsi_share_over(
+    own: Drive,
+    other: Drive,
+    board: *mut u16,
+    entries: usize,
+    list: *mut u64,
+    numbers: usize,
+    rates: *mut u16,
+    rated: usize,
+    owed: *mut u16,
+    owing: usize,
+    owed_other: *mut u16,
+    other_owing: usize,
+    name: u16,
+    weight: u16,
+) -> Reply {
+    let lent = [
+        Lent::changed(board, entries),
+        Lent::changed(list, numbers),
+        NONE,
+        Lent::changed(rates, rated),
+        Lent::changed(owed, owing),
+        Lent::changed(owed_other, other_owing),
+        NONE,
+        NONE,
+    ];
+    ask_all(29, [own, other], name, weight, lent)
+}
+#[no_mangle]
+unsafe extern "C" fn mandrozsi_share_remove(
+    own: Drive,
+    other: Drive,
+    board: *mut u16,
+    entries: usize,
+    list: *mut u64,
+    numbers: usize,
+    rates: *mut u16,
+    rated: usize,
+    owed: *mut u16,
+    owing: usize,
+    owed_other: *mut u16,
+    other_owing: usize,
+    name: u16,
+) -> Reply {
+    let lent = [
+        Lent::changed(board, entries),
+        Lent::changed(list, numbers),
+        NONE,
+        Lent::changed(rates, rated),
+        Lent::changed(owed, owing),
+        Lent::changed(owed_other, other_owing),
+        NONE,
+        NONE,
+    ];
+    ask_all(30, [own, other], name, 0, lent)
+}
+#[no_mangle]
+unsafe extern "C" fn mandrozsi_share_slot(
+    own: Drive,
+    other: Drive,
+    board: *mut u16,
+    entries: usize,
+    list: *mut u64,
+    numbers: usize,
+    rates: *mut u16,
+    rated: usize,
+    owed: *mut u16,
+    owing: usize,
+    owed_other: *mut u16,
+    other_owing: usize,
+) -> Reply {
+    let lent = [
+        Lent::changed(board, entries),
+        Lent::changed(list, numbers),
+        NONE,
+        Lent::changed(rates, rated),
+        Lent::changed(owed, owing),
+        Lent::changed(owed_other, other_owing),
+        NONE,
+        NONE,
+    ];
+    ask_all(31, [own, other], 0, 0, lent)
+}
+#[no_mangle]
+unsafe extern "C" fn mandrozsi_share_round(
+    own: Drive,
+    other: Drive,
+    board: *const u16,
+    entries: usize,
+    rates: *const u16,
+    rated: usize,
+    owed: *const u16,
+    owing: usize,
+    owed_other: *const u16,
+    other_owing: usize,
+    output: *mut u16,
+    length: usize,
+) -> Reply {
+    let lent = [
+        Lent::shared(board, entries),
+        NONE,
+        Lent::changed(output, length),
+        Lent::shared(rates, rated),
+        Lent::shared(owed, owing),
+        Lent::shared(owed_other, other_owing),
+        NONE,
+        NONE,
+    ];
+    ask_all(32, [own, other], 0, 0, lent)
+}
+#[no_mangle]
+unsafe extern "C" fn mandrozsi_share_report(
+    own: Drive,
+    other: Drive,
+    board: *const u16,
+    entries: usize,
+    rates: *const u16,
+    rated: usize,
+    owed: *const u16,
+    owing: usize,
+    owed_other: *const u16,
+    other_owing: usize,
+    name: u16,
+) -> Reply {
+    let lent = [
+        Lent::shared(board, entries),
+        NONE,
+        NONE,
+        Lent::shared(rates, rated),
+        Lent::shared(owed, owing),
+        Lent::shared(owed_other, other_owing),
+        NONE,
+        NONE,
+    ];
+    ask_all(33, [own, other], name, 0, lent)
+}
+#[no_mangle]
+unsafe extern "C" fn mandrozsi_share_save(
+    own: Drive,
+    other: Drive,
+    board: *const u16,
+    entries: usize,
+    rates: *const u16,
+    rated: usize,
+    owed: *const u16,
+    owing: usize,
+    owed_other: *const u16,
+    other_owing: usize,
+    output: *mut u8,
+    length: usize,
+) -> Reply {
+    let lent = [
+        Lent::shared(board, entries),
+        NONE,
+        Lent::changed(output, length),
+        Lent::shared(rates, rated),
+        Lent::shared(owed, owing),
+        Lent::shared(owed_other, other_owing),
+        NONE,
+        NONE,
+    ];
+    ask_all(34, [own, other], 0, 0, lent)
+}
+#[no_mangle]
+unsafe extern "C" fn mandrozsi_share_fresh(
+    own: Drive,
+    other: Drive,
+    board: *mut u16,
+    entries: usize,
+    rates: *mut u16,
+    rated: usize,
+    owed: *mut u16,
+    owing: usize,
+    owed_other: *mut u16,
+    other_owing: usize,
+) -> Reply {
+    let lent = [
+        Lent::changed(board, entries),
+        NONE,
+        NONE,
+        Lent::changed(rates, rated),
+        Lent::changed(owed, owing),
+        Lent::changed(owed_other, other_owing),
+        NONE,
+        NONE,
+    ];
+    ask_all(35, [own, other], 0, 0, lent)
+}
+#[no_mangle]
+unsafe extern "C" fn mandrozsi_share_batch(
+    own: Drive,
+    other: Drive,
+    board: *mut u16,
+    entries: usize,
+    list: *mut u64,
+    numbers: usize,
+    rates: *mut u16,
+    rated: usize,
+    owed: *mut u16,
+    owing: usize,
+    owed_other: *mut u16,
+    other_owing: usize,
+    table: *mut Entry,
+    changes: usize,
+) -> Drive {
+    let lent = [
+        Lent::changed(board, entries),
+        Lent::changed(list, numbers),
+        Lent::changed(table, changes),
+        Lent::changed(rates, rated),
+        Lent::changed(owed, owing),
+        Lent::changed(owed_other, other_owing),
+        NONE,
+        NONE,
+    ];
+    ask_all(36, [own, other], 0, 0, lent).drive
+}
+#[no_mangle]
+unsafe extern "C" fn mandrozsi_share_slot_here(
+    own: *mut Drive,
+    other: Drive,
+    board: *mut u16,
+    entries: usize,
+    list: *mut u64,
+    numbers: usize,
+    rates: *mut u16,
+    rated: usize,
+    owed: *mut u16,
+    owing: usize,
+    owed_other: *mut u16,
+    other_owing: usize,
+) -> Said {
+    let lent = [
+        Lent::changed(board, entries),
+        Lent::changed(list, numbers),
+        NONE,
+        Lent::changed(rates, rated),
+        Lent::changed(owed, owing),
+        Lent::changed(owed_other, other_owing),
+        NONE,
+        NONE,
+    ];
+    let reply = ask_all(37, [*own, other], 0, 0, lent);
+    *own = reply.drive;
+    reply.said
+}
+#[no_mangle]
+unsafe extern "C" fn mandrozsi_share_import(
+    capacity: u16,
+    starts: *const u16,
+    given: usize,
+    names: *const u16,
+    streams: usize,
+    board: *mut u16,
+    entries: usize,
+    list: *mut u64,
+    numbers: usize,
+    rates: *mut u16,
+    rated: usize,
+    owed: *mut u16,
+    owing: usize,
+    owed_other: *mut u16,
+    other_owing: usize,
+    output: *mut u16,
+    length: usize,
+) -> Reply {
+    let asked = Drive {
+        capacity,
+        ..Drive::default()
+    };
+    let (board, list, output) = (Lent::changed(board, entries), Lent::changed(list, numbers), Lent::changed(output, length));
+    let (rates, owed, other) = (
+        Lent::changed(rates, rated),
+        Lent::changed(owed, owing),
+        Lent::changed(owed_other, other_owing),
+    );
+    let (starts, names) = (Lent::shared(starts, given), Lent::shared(names, streams));
+    ask_all(38, one(asked), 0, 0, [board, list, output, rates, owed, other, starts, names])
+}

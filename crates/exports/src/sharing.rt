@@ -1,0 +1,278 @@
+// The functions that C and Rust link for over-allocated streams: the calls of two drives that are lent the tables of r and of each drive's deficits. A single
+// drive has its record in both places.
+ghost use mathlib.Core.Path.{_≡_};
+ghost use Rattle.orders.specs.Results.{addOrder, removeOrder};
+ghost use Rattle.shares.specs.States.{lent};
+ghost use Rattle.shares.specs.Results.{overOrder};
+ghost use Rattle.share_boards.specs.Starting as starting;
+ghost use Rattle.exports.specs.Replies.{saidOf};
+ghost use Rattle.exports.specs.Serving.{ShareServes};
+ghost use Rattle.exports.specs.Tables as promises;
+use crate::Reply;
+use crate::Said;
+use crate::said_done;
+use crate::said_loading;
+use crate::said_opening;
+use crate::said_ordering;
+use crate::said_refreshing;
+use crate::said_refused;
+use crate::said_report;
+use crate::said_rounding;
+use crate::said_serving;
+use crate::said_told;
+use calls::Drive;
+use share_boards::starting::ShareSaving;
+
+// The answer of save.
+fn said_share_saving(answer: ShareSaving) -> Said
+    ensures { λ r. ⌜ r ≡ saidOf (starting.savingAnswer answer) ⌝ }
+{
+    match answer {
+        ShareSaving::Done(bytes) => said_done(bytes as u64, 0, 0, 0),
+        ShareSaving::Kind => said_told(17, 0),
+        ShareSaving::Refused(why) => said_refused(why, 0),
+    }
+}
+
+// Opens a board, clears the tables, and empties the list.
+#[no_mangle]
+pub extern "C" fn mandrozsi_share_open(
+    capacity: u16,
+    board: &mut [u16],
+    list: &mut [u64],
+    rates: &mut [u16],
+    owed: &mut [u16],
+    owed_other: &mut [u16],
+) -> Reply
+    ensures { λ r. ⌜ promises.ShareOpens capacity (lent (now (board .entry)) (now (rates .entry)) (now (owed .entry)) (now («owed_other» .entry))) (now (list .entry)) r (lent (now (board .exit)) (now (rates .exit)) (now (owed .exit)) (now («owed_other» .exit))) (now (list .exit)) ⌝ }
+{
+    let opened = share_boards::keeping::open(capacity, board, list, rates, owed, owed_other);
+    let after = opened.drive;
+    let answer = opened.answer;
+    Reply {
+        drive: after,
+        said: said_opening(answer),
+    }
+}
+
+// Reads a sheet, clears the tables, and empties the list.
+#[no_mangle]
+pub extern "C" fn mandrozsi_share_read(
+    sheet: &[u8],
+    board: &mut [u16],
+    list: &mut [u64],
+    rates: &mut [u16],
+    owed: &mut [u16],
+    owed_other: &mut [u16],
+) -> Reply
+    ensures { λ r. ⌜ promises.ShareLoads (now (sheet .entry)) (lent (now (board .entry)) (now (rates .entry)) (now (owed .entry)) (now («owed_other» .entry))) (now (list .entry)) r (lent (now (board .exit)) (now (rates .exit)) (now (owed .exit)) (now («owed_other» .exit))) (now (list .exit)) ⌝ }
+{
+    let loaded = share_boards::keeping::read(sheet, board, list, rates, owed, owed_other);
+    let after = loaded.drive;
+    let answer = loaded.answer;
+    Reply {
+        drive: after,
+        said: said_loading(answer),
+    }
+}
+
+// Admits a stream, at once or by an order that waits.
+#[no_mangle]
+pub extern "C" fn mandrozsi_share_add(
+    own: Drive,
+    other: Drive,
+    board: &mut [u16],
+    list: &mut [u64],
+    rates: &mut [u16],
+    owed: &mut [u16],
+    owed_other: &mut [u16],
+    name: u16,
+    weight: u16,
+) -> Reply
+    ensures { λ r. ⌜ promises.ShareOrders own other (lent (now (board .entry)) (now (rates .entry)) (now (owed .entry)) (now («owed_other» .entry))) (now (list .entry)) (addOrder name weight) r (lent (now (board .exit)) (now (rates .exit)) (now (owed .exit)) (now («owed_other» .exit))) (now (list .exit)) ⌝ }
+{
+    let added = shares::add(
+        own,
+        other,
+        board,
+        list,
+        rates,
+        owed,
+        owed_other,
+        name,
+        weight,
+    );
+    let after = added.drive;
+    let answer = added.answer;
+    Reply {
+        drive: after,
+        said: said_ordering(answer),
+    }
+}
+
+// Admits an over-allocated stream, at once or by an order that waits.
+#[no_mangle]
+pub extern "C" fn mandrozsi_share_over(
+    own: Drive,
+    other: Drive,
+    board: &mut [u16],
+    list: &mut [u64],
+    rates: &mut [u16],
+    owed: &mut [u16],
+    owed_other: &mut [u16],
+    name: u16,
+    weight: u16,
+) -> Reply
+    ensures { λ r. ⌜ promises.ShareOrders own other (lent (now (board .entry)) (now (rates .entry)) (now (owed .entry)) (now («owed_other» .entry))) (now (list .entry)) (overOrder name weight) r (lent (now (board .exit)) (now (rates .exit)) (now (owed .exit)) (now («owed_other» .exit))) (now (list .exit)) ⌝ }
+{
+    let added = shares::over(
+        own,
+        other,
+        board,
+        list,
+        rates,
+        owed,
+        owed_other,
+        name,
+        weight,
+    );
+    let after = added.drive;
+    let answer = added.answer;
+    Reply {
+        drive: after,
+        said: said_ordering(answer),
+    }
+}
+
+// Removes a stream, at once or by an order that waits; the tables follow the streams that move.
+#[no_mangle]
+pub extern "C" fn mandrozsi_share_remove(
+    own: Drive,
+    other: Drive,
+    board: &mut [u16],
+    list: &mut [u64],
+    rates: &mut [u16],
+    owed: &mut [u16],
+    owed_other: &mut [u16],
+    name: u16,
+) -> Reply
+    ensures { λ r. ⌜ promises.ShareOrders own other (lent (now (board .entry)) (now (rates .entry)) (now (owed .entry)) (now («owed_other» .entry))) (now (list .entry)) (removeOrder name) r (lent (now (board .exit)) (now (rates .exit)) (now (owed .exit)) (now («owed_other» .exit))) (now (list .exit)) ⌝ }
+{
+    let removed = shares::remove(own, other, board, list, rates, owed, owed_other, name);
+    let after = removed.drive;
+    let answer = removed.answer;
+    Reply {
+        drive: after,
+        said: said_ordering(answer),
+    }
+}
+
+// Serves a slot of the own drive, whose record moves on: an over-allocated stream takes its turn by the deficits of that drive. Where both drives are at the start
+// of a round the orders that wait are carried out first.
+#[no_mangle]
+pub extern "C" fn mandrozsi_share_slot(
+    own: Drive,
+    other: Drive,
+    board: &mut [u16],
+    list: &mut [u64],
+    rates: &mut [u16],
+    owed: &mut [u16],
+    owed_other: &mut [u16],
+) -> Reply
+    ensures { λ r. ⌜ ShareServes own other (lent (now (board .entry)) (now (rates .entry)) (now (owed .entry)) (now («owed_other» .entry))) (now (list .entry)) r (lent (now (board .exit)) (now (rates .exit)) (now (owed .exit)) (now («owed_other» .exit))) (now (list .exit)) ⌝ }
+{
+    let served = shares::slot(own, other, board, list, rates, owed, owed_other);
+    let after = served.drive;
+    let answer = served.answer;
+    Reply {
+        drive: after,
+        said: said_serving(answer),
+    }
+}
+
+// Writes the names of a full round, every deficit taken as 0.
+#[no_mangle]
+pub extern "C" fn mandrozsi_share_round(
+    own: Drive,
+    other: Drive,
+    board: &[u16],
+    rates: &[u16],
+    owed: &[u16],
+    owed_other: &[u16],
+    output: &mut [u16],
+) -> Reply
+    ensures { λ r. ⌜ promises.ShareRounds own other (lent (now (board .entry)) (now (rates .entry)) (now (owed .entry)) (now («owed_other» .entry))) (now (output .entry)) r (now (output .exit)) ⌝ }
+{
+    let rounded = share_boards::looking::round(own, other, board, rates, owed, owed_other, output);
+    let after = rounded.drive;
+    let answer = rounded.answer;
+    Reply {
+        drive: after,
+        said: said_rounding(answer),
+    }
+}
+
+// Reports on a stream: r of one that is over-allocated.
+#[no_mangle]
+pub extern "C" fn mandrozsi_share_report(
+    own: Drive,
+    other: Drive,
+    board: &[u16],
+    rates: &[u16],
+    owed: &[u16],
+    owed_other: &[u16],
+    name: u16,
+) -> Reply
+    ensures { λ r. ⌜ promises.ShareReports own other (lent (now (board .entry)) (now (rates .entry)) (now (owed .entry)) (now («owed_other» .entry))) name r ⌝ }
+{
+    let reported = share_boards::looking::report(own, other, board, rates, owed, owed_other, name);
+    let after = reported.drive;
+    let answer = reported.answer;
+    Reply {
+        drive: after,
+        said: said_report(answer),
+    }
+}
+
+// Saves a board that holds no over-allocated stream.
+#[no_mangle]
+pub extern "C" fn mandrozsi_share_save(
+    own: Drive,
+    other: Drive,
+    board: &[u16],
+    rates: &[u16],
+    owed: &[u16],
+    owed_other: &[u16],
+    output: &mut [u8],
+) -> Reply
+    ensures { λ r. ⌜ promises.ShareSaves own other (lent (now (board .entry)) (now (rates .entry)) (now (owed .entry)) (now («owed_other» .entry))) (now (output .entry)) r (now (output .exit)) ⌝ }
+{
+    let saved = share_boards::starting::save(own, other, board, rates, owed, owed_other, output);
+    let after = saved.drive;
+    let answer = saved.answer;
+    Reply {
+        drive: after,
+        said: said_share_saving(answer),
+    }
+}
+
+// Lays the board out afresh; the tables follow.
+#[no_mangle]
+pub extern "C" fn mandrozsi_share_fresh(
+    own: Drive,
+    other: Drive,
+    board: &mut [u16],
+    rates: &mut [u16],
+    owed: &mut [u16],
+    owed_other: &mut [u16],
+) -> Reply
+    ensures { λ r. ⌜ promises.ShareRefreshes own other (lent (now (board .entry)) (now (rates .entry)) (now (owed .entry)) (now («owed_other» .entry))) r (lent (now (board .exit)) (now (rates .exit)) (now (owed .exit)) (now («owed_other» .exit))) ⌝ }
+{
+    let refreshed = share_boards::starting::fresh(own, other, board, rates, owed, owed_other);
+    let after = refreshed.drive;
+    let answer = refreshed.answer;
+    Reply {
+        drive: after,
+        said: said_refreshing(answer),
+    }
+}

@@ -1,0 +1,2 @@
+-- What upper crates cite is Laws.
+pub mod Laws

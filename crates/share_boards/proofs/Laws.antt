@@ -1,0 +1,262 @@
+-- The laws of open, read, round, report, save and the fresh layout with tables: no second answer fits; what a refusal leaves as it was; that only the numbers of
+-- its list are answered; that what open, read and the fresh layout leave fits; and that all are the calls without tables where the tables are zero.
+-- Assumes nothing.
+use mathlib.Core.Path.{_≡_, refl, ap, _∙_}
+use mathlib.Core.Bool.{Bool, true, false, cond, not, _||_}
+use mathlib.Core.List.{List, [], _∷_, _++_}
+use Prim.Native.Nat.{ℕ, max, _*_, _<_}
+use native.Mathlib.Omega.{arith}
+use lib.Dec.{eqb, ltb}
+use lib.ListN.{length, getD, replicate, length-replicate, getD-replicate, List·getD-append, drop}
+use borrow.Author.Tests.{ne-eqb}
+use Rattle.sequences.specs.Serving.{countList}
+use Rattle.pieces.proofs.Laws.{opened-good}
+use Rattle.tables.specs.Turns.{roundServes, servedWeight}
+use Rattle.tables.proofs.Laws.{cleared-fits, rated-at, one-piece, round-serves}
+use Rattle.calls.specs.declared.Drive.{Drive}
+use Rattle.calls.specs.declared.Refusal.the-variants.{Short, Midround, Damaged, Name, Absent, Output}
+use Rattle.calls.specs.declared.Check.{Check}
+use Rattle.calls.specs.declared.Check.the-variants.{Clear, Refused}
+use Rattle.calls.specs.declared.Opened.{Opened}
+use Rattle.calls.specs.declared.Rounded.{Rounded}
+use Rattle.calls.specs.declared.Reported.{Reported}
+use Rattle.calls.specs.declared.Refreshed.{Refreshed}
+use Rattle.calls.specs.Records.{driveAt}
+use Rattle.calls.specs.Refusals.{refuseIf, andThen, zeroOr, numbers, among, asked, askedOpen, askedOutput, askedName, openMay, roundMay, reportMay, changeMay, openCheck, roundCheck, heldCheck, goodCheck}
+use Rattle.calls.specs.Answers.{Answer, openingAnswer, roundingAnswer, reportAnswer, refreshingAnswer}
+use Rattle.calls.specs.Results.{ifClear, idleBoard}
+use Rattle.calls.proofs.Laws.{unique, Refuses, refuses, refusal, may, Within, within-among, first-within, then-within, if-within, covers, part-within, first-clear, then-clear, leaf-held}
+use Rattle.sheets.specs.declared.Loaded.{Loaded}
+use Rattle.sheets.specs.Sheet.{blocks, sheet, capacityIn, leavesIn, laid}
+use Rattle.sheets.specs.Forms.{readMay, blockCheck, startCheck, loadingAnswer}
+use Rattle.sheets.specs.Forms as forms
+use Rattle.sheets.specs.Results as sheets
+use Rattle.sheets.proofs.Laws.{read-good}
+use Rattle.waiting.specs.Layout.{tooShort}
+use Rattle.drives.specs.Checks.{pairCheck, bothStart}
+use Rattle.drives.proofs.Laws.{pair-within}
+use Rattle.share_boards.specs.declared.starting.ShareSaved.{ShareSaved}
+use Rattle.shares.specs.States.{State, fitting}
+use Rattle.shares.specs.Checks.{tooFew, shareCheck, lookCheck, Ready}
+use Rattle.share_boards.specs.Keeping.{lentCheck, openingCheck, readingCheck, openedAnswer, openedState, loadedAnswer, loadedState, Opens, Loads}
+use Rattle.share_boards.specs.Looking.{roundingCheck, reportingCheck, roundingMay, roundedAnswer, reportedWeight, reportedPieces, reportedAnswer, Rounds, Reports}
+use Rattle.share_boards.specs.Starting as starting
+use Rattle.share_boards.specs.Starting.{fitCheck, savingCheck, savingAnswer, savedAnswer, savedAnswerBy, plainKind, refreshedAnswer, Saves, Refreshes}
+use Rattle.share_boards.proofs.Lends.{opening-ready}
+use Rattle.share_boards.proofs.Looks.{ready-sized, ready-shared}
+use Rattle.share_boards.proofs.Starts.{bounds}
+-- ---- the checks: once they find nothing the record is ready, and of a name that is reported on there is a leaf
+
+pub use Rattle.share_boards.proofs.Looks.{ready-first, rounding-ready, Reportable, reporting-clear}
+pub use Rattle.share_boards.proofs.Starts.{start-both-there, start-look, start-ready, saving-start}
+-- ---- without over-allocated streams the calls are those without tables, and leave the tables
+
+pub use Rattle.share_boards.proofs.Agreeing.{Bare, open-agrees, read-agrees, Blank, look-same, start-same, round-agrees, report-agrees, save-agrees, fresh-agrees}
+-- ---- the fresh layout: what it leaves, made again, and from another history
+
+pub use Rattle.share_boards.proofs.Relaid.{fresh-fits, fresh-held, fresh-moves, fresh-keeps, fresh-twice, fresh-equal}
+
+-- 2 for what is lent beside the board.
+lent-within : (ns : List ℕ) (C : ℕ) (s : State) (n : ℕ) → zeroOr 2 ns ≡ true → zeroOr 0 ns ≡ true → Within ns (lentCheck C s n)
+unfolding lentCheck
+lent-within ns C s n two none = if-within ns (tooShort n || tooFew C s) Short Clear two none
+
+-- 1, 2, 3 and 5.
+look-within : (ns : List ℕ) (a b : Drive) (s : State) → covers ns (1 ∷ 2 ∷ 3 ∷ []) ≡ true → zeroOr 5 ns ≡ true → zeroOr 0 ns ≡ true → Within ns (lookCheck a b s)
+unfolding shareCheck
+look-within ns a b s c five none =
+    let short = tooFew (max (a .capacity) (b .capacity)) s in
+    then-within ns (pairCheck a b (s .board) short) (refuseIf (not (fitting (a .capacity) s)) Damaged Clear)
+    (part-within ns (1 ∷ 2 ∷ 3 ∷ []) (pairCheck a b (s .board) short) c (pair-within a b (s .board) short))
+    (if-within ns (not (fitting (a .capacity) s)) Damaged Clear five none)
+
+-- 1 to 5.
+start-within : (ns : List ℕ) (a b : Drive) (s : State) → covers ns (1 ∷ 2 ∷ 3 ∷ []) ≡ true → zeroOr 4 ns ≡ true → zeroOr 5 ns ≡ true → zeroOr 0 ns ≡ true
+    → Within ns (starting.startCheck a b s)
+unfolding starting.startCheck fitCheck
+start-within ns a b s c four five none =
+    then-within ns (bounds a b s) (refuseIf (not (bothStart a b)) Midround (fitCheck (a .capacity) s))
+    (part-within ns (1 ∷ 2 ∷ 3 ∷ []) (bounds a b s) c (pair-within a b (s .board) (tooFew (max (a .capacity) (b .capacity)) s)))
+    (if-within ns (not (bothStart a b)) Midround (fitCheck (a .capacity) s) four (if-within ns (not (fitting (a .capacity) s)) Damaged Clear five none))
+
+-- ---- open
+
+idle-leaf : (C : ℕ) (B : List ℕ) (i : ℕ) → i < C → getD (idleBoard C B) i 0 ≡ 0
+unfolding idleBoard
+idle-leaf C B i h =
+    List·getD-append (replicate C 0) (drop C B) 0 i (omega (arith, length-replicate {A = ℕ} C 0)) ∙ getD-replicate C i 0 0 h
+
+module _ (C : ℕ) (s : State) (L : List ℕ) where
+  pub open-unique : {r q : Opened} {t u : State} {F G : List ℕ} → Opens C s L r t F → Opens C s L q u G → (r ≡ q) × (t ≡ u) × (F ≡ G)
+  open-unique p q = (unique (p .0) (q .0), unique (p .2) (q .2), unique (p .3) (q .3))
+
+  pub open-refused : {r : Opened} {t : State} {F : List ℕ} → Opens C s L r t F → Refuses (openingAnswer (r .answer)) → (r .drive ≡ driveAt 0 0) × (t ≡ s) × (F ≡ L)
+  open-refused p h = rw (p .0, p .2, p .3, refusal (openingCheck C s (length L)) (refuses (p .1) h) .1) (refl, refl, refl)
+
+  pub open-answers : among (openedAnswer C s (length L) .number) openMay ≡ true
+  unfolding openingCheck openCheck zeroOr
+  open-answers =
+      let ns = numbers openMay in
+      within-among openMay (openingCheck C s (length L))
+      (then-within ns (openCheck C (s .board)) (lentCheck C s (length L)) (first-within openMay (askedOpen C (s .board))) (lent-within ns C s (length L) refl refl))
+
+  pub open-may : {r : Opened} {t : State} {F : List ℕ} → Opens C s L r t F → among (openingAnswer (r .answer) .number) openMay ≡ true
+  open-may p = may openMay (p .1) open-answers
+
+  -- What it leaves fits.
+  pub open-fits : openingCheck C s (length L) ≡ Clear → fitting C (openedState C s (length L)) ≡ true
+  open-fits e =
+      let few = opening-ready C s (length L) e .0 in
+      rw e (cleared-fits C (idleBoard C (s .board)) (s .rates) (s .owed ∷ s .other ∷ []) (opened-good C (idleBoard C (s .board)) few (idle-leaf C (s .board))))
+
+-- ---- read
+
+block-within : (ns : List ℕ) (b : Bool) → zeroOr 12 ns ≡ true → zeroOr 0 ns ≡ true → Within ns (blockCheck b)
+unfolding blockCheck
+block-within ns true twelve none = twelve
+block-within ns false twelve none = none
+
+module _ (S : List ℕ) (s : State) (L : List ℕ) where
+  pub read-unique : {r q : Loaded} {t u : State} {F G : List ℕ} → Loads S s L r t F → Loads S s L q u G → (r ≡ q) × (t ≡ u) × (F ≡ G)
+  read-unique p q = (unique (p .0) (q .0), unique (p .2) (q .2), unique (p .3) (q .3))
+
+  pub read-refused : {r : Loaded} {t : State} {F : List ℕ} → Loads S s L r t F → Refuses (loadingAnswer (r .answer)) → (r .drive ≡ driveAt 0 0) × (t ≡ s) × (F ≡ L)
+  read-refused p h = rw (p .0, p .2, p .3, refusal (readingCheck S s (length L)) (refuses (p .1) h) .1) (refl, refl, refl)
+
+  pub read-answers : among (loadedAnswer S s (length L) .number) readMay ≡ true
+  unfolding readingCheck startCheck openCheck goodCheck zeroOr covers
+  read-answers =
+      let ns = numbers readMay in
+      let C = capacityIn S in
+      let rest = andThen (blockCheck (not (laid C S))) (goodCheck C (leavesIn C S)) in
+      within-among readMay (readingCheck S s (length L))
+      (then-within ns (startCheck S (s .board)) (andThen (lentCheck C s (length L)) rest)
+      (then-within ns (blockCheck (ltb (length S) 512)) (openCheck C (s .board)) (block-within ns (ltb (length S) 512) refl refl)
+      (part-within ns (numbers openMay) (openCheck C (s .board)) refl (first-within openMay (askedOpen C (s .board)))))
+      (then-within ns (lentCheck C s (length L)) rest (lent-within ns C s (length L) refl refl)
+      (then-within ns (blockCheck (not (laid C S))) (goodCheck C (leavesIn C S)) (block-within ns (not (laid C S)) refl refl)
+      (part-within ns (5 ∷ []) (goodCheck C (leavesIn C S)) refl (first-within (Damaged ∷ []) (asked (driveAt C 1) (leavesIn C S)))))))
+
+  pub read-may : {r : Loaded} {t : State} {F : List ℕ} → Loads S s L r t F → among (loadingAnswer (r .answer) .number) readMay ≡ true
+  read-may p = may readMay (p .1) read-answers
+
+  -- What is accepted is accepted without tables,
+  pub read-accepts : readingCheck S s (length L) ≡ Clear → sheets.readCheck S (s .board) ≡ Clear
+  unfolding readingCheck forms.readingCheck
+  read-accepts e =
+      let C = capacityIn S in
+      let rest = andThen (blockCheck (not (laid C S))) (goodCheck C (leavesIn C S)) in
+      let later = then-clear (startCheck S (s .board)) (andThen (lentCheck C s (length L)) rest) e in
+      rw (first-clear (startCheck S (s .board)) (andThen (lentCheck C s (length L)) rest) e) (then-clear (lentCheck C s (length L)) rest later)
+
+  -- and what it leaves fits.
+  pub read-fits : readingCheck S s (length L) ≡ Clear → fitting (capacityIn S) (loadedState S s (length L)) ≡ true
+  read-fits e =
+      rw e (cleared-fits (capacityIn S) (leavesIn (capacityIn S) S ++ drop (capacityIn S) (s .board)) (s .rates) (s .owed ∷ s .other ∷ []) (read-good S (s .board) (read-accepts e)))
+
+-- ---- round
+
+module _ (a b : Drive) (s : State) (O : List ℕ) where
+  pub round-unique : {r q : Rounded} {E F : List ℕ} → Rounds a b s O r E → Rounds a b s O q F → (r ≡ q) × (E ≡ F)
+  round-unique p q = (unique (p .0) (q .0), unique (p .2) (q .2))
+
+  pub round-refused : {r : Rounded} {E : List ℕ} → Rounds a b s O r E → Refuses (roundingAnswer (r .answer)) → (r .drive ≡ a) × (E ≡ O)
+  round-refused p h = rw (p .0, p .2, refusal (roundingCheck a b s (length O)) (refuses (p .1) h) .1) (refl, refl)
+
+  pub round-answers : among (roundedAnswer a b s O .number) roundingMay ≡ true
+  unfolding roundingCheck roundCheck covers zeroOr
+  round-answers =
+      let ns = numbers roundingMay in
+      within-among roundingMay (roundingCheck a b s (length O))
+      (then-within ns (lookCheck a b s) (roundCheck a (s .board) (length O)) (look-within ns a b s refl refl refl)
+      (part-within ns (numbers roundMay) (roundCheck a (s .board) (length O)) refl (first-within roundMay (askedOutput a (s .board) (length O) (a .capacity)))))
+
+  pub round-may : {r : Rounded} {E : List ℕ} → Rounds a b s O r E → among (roundingAnswer (r .answer) .number) roundingMay ≡ true
+  round-may p = may roundingMay (p .1) round-answers
+
+-- ---- report
+
+module _ (a b : Drive) (s : State) (x : ℕ) where
+  pub report-unique : {r q : Reported} → Reports a b s x r → Reports a b s x q → r ≡ q
+  report-unique p q = unique (p .0) (q .0)
+
+  pub report-refused : {r : Reported} → Reports a b s x r → Refuses (reportAnswer (r .answer)) → (r .drive ≡ a) × (reportAnswer (r .answer) .values ≡ 0 ∷ 0 ∷ 0 ∷ [])
+  report-refused p h = rw (p .0, refusal (reportingCheck a b s x) (refuses (p .1) h) .1) (refl, refl)
+
+  pub report-answers : among (reportedAnswer a b s x .number) reportMay ≡ true
+  unfolding reportingCheck heldCheck covers zeroOr
+  report-answers =
+      let ns = numbers reportMay in
+      within-among reportMay (reportingCheck a b s x)
+      (then-within ns (lookCheck a b s) (heldCheck (a .capacity) (s .board) x) (look-within ns a b s refl refl refl)
+      (part-within ns (6 ∷ 9 ∷ []) (heldCheck (a .capacity) (s .board) x) refl (first-within (Name ∷ Absent ∷ []) (askedName (driveAt (a .capacity) 1) (s .board) x))))
+
+  pub report-may : {r : Reported} → Reports a b s x r → among (reportAnswer (r .answer) .number) reportMay ≡ true
+  report-may p = may reportMay (p .1) report-answers
+
+-- An over-allocated stream, one of whose leaves is the lowest, i, is reported with r and one piece, and the round serves it r times.
+pub report-over : (a : Drive) (s : State) → Ready a s → (i : ℕ) → i < a .capacity → (getD (s .rates) i 0 ≡ 0 → ⊥)
+    → let x = getD (s .board) i 0 in
+    (reportedWeight a s x ≡ getD (s .rates) i 0) × (reportedPieces a s x ≡ 1) × (countList (λ y. eqb y x) (roundServes (a .capacity) (s .board) (s .rates)) ≡ getD (s .rates) i 0)
+unfolding servedWeight
+report-over a s r i h some =
+    let C = a .capacity in
+    let B = s .board in
+    let T = s .rates in
+    let sh = ready-shared a s r in
+    let is = rated-at C B T (sh .fit) i h some in
+    let w : reportedWeight a s (getD B i 0) ≡ getD T i 0 = rw (is .low, ne-eqb (getD T i 0) 0 some) refl in
+    let z = ready-sized a s r in
+    let held = leaf-held C B (getD B i 0) i h refl in
+    (w, one-piece C B T i (z .few) (sh .sound) (sh .fit) h some, round-serves C B T (z .few) (z .some) (sh .fit) (getD B i 0) (is .named) held ∙ w)
+
+-- ---- save
+
+-- What is not done: a refusal, or 17.
+not-saved : (k : Check) (none : Bool) (n : ℕ) (done was : List ℕ) → (savedAnswerBy k none n .number ≡ 0 → ⊥) → (savedAnswerBy k none n .values ≡ 0 ∷ []) × (ifClear k (cond none done was) was ≡ was)
+not-saved Clear true n done was h = absurd (h refl)
+not-saved Clear false n done was h = (refl, refl)
+not-saved (Refused r) none n done was h = (refl, refl)
+
+kind-within : (ns : List ℕ) (k : Check) (none : Bool) (n : ℕ) → zeroOr 17 ns ≡ true → Within ns k → zeroOr (savedAnswerBy k none n .number) ns ≡ true
+kind-within ns Clear true n kind m = m
+kind-within ns Clear false n kind m = kind
+kind-within ns (Refused r) none n kind m = m
+
+module _ (a b : Drive) (s : State) (O : List ℕ) where
+  pub save-unique : {r q : ShareSaved} {E F : List ℕ} → Saves a b s O r E → Saves a b s O q F → (r ≡ q) × (E ≡ F)
+  save-unique p q = (unique (p .0) (q .0), unique (p .2) (q .2))
+
+  pub save-refused : {r : ShareSaved} {E : List ℕ} → Saves a b s O r E → Refuses (savingAnswer (r .answer))
+      → (r .drive ≡ a) × (savingAnswer (r .answer) .values ≡ 0 ∷ []) × (E ≡ O)
+  save-refused p h =
+      let m = 512 * blocks (a .capacity) in
+      let n = not-saved (savingCheck a b s (length O)) (plainKind a s) m (sheet (a .capacity) (s .board) ++ drop m O) O (refuses (p .1) h) in
+      (ap (λ (r : ShareSaved). r .drive) (p .0), ap (λ (x : Answer). x .values) (p .1) ∙ n .0, p .2 ∙ n .1)
+
+  pub save-answers : zeroOr (savedAnswer a b s O .number) (1 ∷ 2 ∷ 3 ∷ 4 ∷ 5 ∷ 11 ∷ 17 ∷ []) ≡ true
+  unfolding savingCheck covers zeroOr
+  save-answers =
+      let ns : List ℕ = 1 ∷ 2 ∷ 3 ∷ 4 ∷ 5 ∷ 11 ∷ 17 ∷ [] in
+      let short = ltb (length O) (512 * blocks (a .capacity)) in
+      kind-within ns (savingCheck a b s (length O)) (plainKind a s) (512 * blocks (a .capacity)) refl
+      (then-within ns (starting.startCheck a b s) (refuseIf short Output Clear) (start-within ns a b s refl refl refl refl) (if-within ns short Output Clear refl refl))
+
+  pub save-may : {r : ShareSaved} {E : List ℕ} → Saves a b s O r E → zeroOr (savingAnswer (r .answer) .number) (1 ∷ 2 ∷ 3 ∷ 4 ∷ 5 ∷ 11 ∷ 17 ∷ []) ≡ true
+  save-may p = rw (p .1) save-answers
+
+-- ---- the fresh layout
+
+module _ (a b : Drive) (s : State) where
+  pub fresh-unique : {r q : Refreshed} {t u : State} → Refreshes a b s r t → Refreshes a b s q u → (r ≡ q) × (t ≡ u)
+  fresh-unique p q = (unique (p .0) (q .0), unique (p .2) (q .2))
+
+  pub fresh-refused : {r : Refreshed} {t : State} → Refreshes a b s r t → Refuses (refreshingAnswer (r .answer)) → (r .drive ≡ a) × (t ≡ s)
+  fresh-refused p h = rw (p .0, p .2, refusal (starting.startCheck a b s) (refuses (p .1) h) .1) (refl, refl)
+
+  pub fresh-answers : among (refreshedAnswer a b s .number) changeMay ≡ true
+  unfolding covers zeroOr
+  fresh-answers = within-among changeMay (starting.startCheck a b s) (start-within (numbers changeMay) a b s refl refl refl refl)
+
+  pub fresh-may : {r : Refreshed} {t : State} → Refreshes a b s r t → among (refreshingAnswer (r .answer) .number) changeMay ≡ true
+  fresh-may p = may changeMay (p .1) fresh-answers

@@ -1,0 +1,8 @@
+-- What upper crates cite is Laws. The rest is inner; Examples has calls worked by hand.
+mod Lends
+mod Looks
+mod Starts
+mod Agreeing
+mod Relaid
+mod Examples
+pub mod Laws

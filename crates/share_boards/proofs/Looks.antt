@@ -1,0 +1,114 @@
+-- What the code of round and report needs once their checks find nothing.
+-- Assumes nothing.
+use mathlib.Core.Path.{_≡_, refl, _∙_}
+use mathlib.Core.Bool.{false}
+use mathlib.Core.List.{List, [], _∷_}
+use Prim.Native.Nat.{ℕ, _-_, _^_, _≤_, _<_}
+use native.Mathlib.Omega.{arith}
+use lib.Count.{ones}
+use lib.Dec.{eqb}
+use lib.ListN.{getD}
+use borrow.Author.Tests.{le-ltb, eqb-false}
+use Rattle.sequences.specs.Board.{digits, Position}
+use Rattle.sequences.proofs.Laws.{digits-lt, first-position}
+use Rattle.pieces.specs.Board.{weight, number}
+use Rattle.pieces.proofs.Laws.{weight-le, pieces-ones}
+use Rattle.tables.specs.Sharing.{lowest}
+use Rattle.tables.specs.Turns.{Shared, servedWeight, roundServes}
+use Rattle.tables.proofs.Laws.{held-above, lowest-held, rated-at, fits-shared, spacing-most}
+use Rattle.calls.specs.declared.Drive.{Drive}
+use Rattle.calls.specs.declared.Check.the-variants.{Clear}
+use Rattle.calls.specs.Records.{driveAt}
+use Rattle.calls.specs.Spacing.{spacingIn}
+use Rattle.calls.specs.Refusals.{removeCheck, roundCheck, heldCheck, positionCheck}
+use Rattle.calls.proofs.Laws.{by-bool, Sized, first-clear, then-clear, open-sized, slot-sized, slot-parts, remove-parts, remove-clear, remove-held, round-room}
+use Rattle.shares.specs.States.{State}
+use Rattle.shares.specs.Checks.{lookCheck, Ready}
+use Rattle.share_boards.specs.Looking.{roundingCheck, reportingCheck}
+use Rattle.shares.proofs.Laws.{share-ready, ready-change}
+
+-- ---- a record at the start of a round
+
+position-first : (C : ℕ) → 0 < C → positionCheck C 1 ≡ Clear
+unfolding positionCheck
+position-first C some = rw (le-ltb (2 ^ digits C - 1) 1 (omega (arith, digits-lt C))) refl
+
+module _ (a : Drive) (s : State) (r : Ready a s) where
+  pub ready-sized : Sized (a .capacity) (s .board)
+  ready-sized = slot-sized a (s .board) (r .clear)
+
+  pub ready-position : Position (a .capacity) 1
+  ready-position = first-position (a .capacity) (ready-sized .some) (omega (arith, ready-sized .few))
+
+  pub ready-shared : Shared (a .capacity) (s .board) (s .rates)
+  ready-shared = fits-shared (a .capacity) (s .board) (s .rates) (s .owed ∷ s .other ∷ []) (ready-sized .few) (ready-sized .long) (r .rates) (r .fit)
+
+  -- The same board is ready for a record at the start of a round,
+  pub ready-first : Ready (driveAt (a .capacity) 1) s
+  ready-first = record {
+    clear = slot-parts (driveAt (a .capacity) 1) (s .board) ∙ rw (open-sized (a .capacity) (s .board) ready-sized, position-first (a .capacity) (ready-sized .some)) refl;
+    rates = r .rates;
+    owed = r .owed;
+    other = r .other;
+    fit = r .fit;
+  }
+
+  -- where remove finds nothing but 6 and 9.
+  pub ready-held : (x : ℕ) → removeCheck (driveAt (a .capacity) 1) (s .board) x ≡ heldCheck (a .capacity) (s .board) x
+  ready-held x = remove-parts (driveAt (a .capacity) 1) (s .board) x ∙ rw (← ready-change (driveAt (a .capacity) 1) s ready-first refl) refl
+
+-- ---- round
+
+module _ (a b : Drive) (s : State) (n : ℕ) (e : roundingCheck a b s n ≡ Clear) where
+  pub rounding-ready : Ready a s
+  unfolding roundingCheck
+  rounding-ready = share-ready a b s false (first-clear (lookCheck a b s) (roundCheck a (s .board) n) e)
+
+  -- what writing the round asks
+  pub rounding-done : (Position (a .capacity) 1) × (a .capacity ≤ n) × Shared (a .capacity) (s .board) (s .rates)
+  unfolding roundingCheck
+  rounding-done =
+      (ready-position a s rounding-ready, round-room a (s .board) n (then-clear (lookCheck a b s) (roundCheck a (s .board) n) e), ready-shared a s rounding-ready)
+
+-- ---- report
+
+-- What is known of the name.
+pub record Reportable (a : Drive) (s : State) (x : ℕ) : Type 0 where
+  pub ready : Ready a s
+  pub named : x ≡ 0 → ⊥
+  pub held : 0 < weight (a .capacity) (s .board) x
+
+pub reporting-clear : (a b : Drive) (s : State) (x : ℕ) → reportingCheck a b s x ≡ Clear → Reportable a s x
+unfolding reportingCheck
+reporting-clear a b s x e =
+    let r = share-ready a b s false (first-clear (lookCheck a b s) (heldCheck (a .capacity) (s .board) x) e) in
+    let k = ready-held a s r x ∙ then-clear (lookCheck a b s) (heldCheck (a .capacity) (s .board) x) e in
+    let h = remove-held (driveAt (a .capacity) 1) (s .board) x k in
+    record { ready = r; named = remove-clear (driveAt (a .capacity) 1) (s .board) x k .named; held = omega arith }
+
+-- A stream is served at most once at each of its leaves.
+pub served-le : (a : Drive) (s : State) (x : ℕ) → Reportable a s x → servedWeight (a .capacity) (s .board) (s .rates) x ≤ a .capacity
+unfolding servedWeight
+served-le a s x q =
+    let sh = ready-shared a s (q .ready) in
+    let l = lowest (a .capacity) (s .board) x in
+    by-bool (eqb (getD (s .rates) l 0) 0)
+    (λ t. rw t (weight-le (a .capacity) (s .board) x))
+    (λ f.
+    let h = lowest-held (s .board) x (a .capacity) (q .held) in
+    let r = rated-at (a .capacity) (s .board) (s .rates) (sh .fit) l h (eqb-false (getD (s .rates) l 0) 0 f) in
+    let w = weight-le (a .capacity) (s .board) (getD (s .board) l 0) in
+    rw f (omega (arith, r .holds, w, held-above (getD (s .rates) l 0))))
+
+-- Nor are there more leaves or a wider spacing than the capacity.
+pub count-le : (C : ℕ) (B : List ℕ) (x n : ℕ) → n ≡ weight C B x → n ≤ C
+count-le C B x n e = rw e (weight-le C B x)
+
+pub spaced-le : (a : Drive) (s : State) (x : ℕ) → Reportable a s x → spacingIn x (roundServes (a .capacity) (s .board) (s .rates)) ≤ a .capacity
+spaced-le a s x q =
+    let z = ready-sized a s (q .ready) in
+    spacing-most (a .capacity) (s .board) (s .rates) (z .few) (z .some) (ready-shared a s (q .ready) .fit) x (q .named) (q .held)
+
+-- The pieces are told by the leaves.
+pub pieces-told : (a : Drive) (s : State) (x : ℕ) → Reportable a s x → number (a .capacity) (s .board) x ≡ ones (weight (a .capacity) (s .board) x)
+pieces-told a s x q = pieces-ones (a .capacity) (s .board) x (ready-sized a s (q .ready) .few) (ready-shared a s (q .ready) .sound)

@@ -1,0 +1,40 @@
+-- `share_boards::keeping::check_start` meets its contract.
+-- Assumes nothing.
+use borrow.Author.Needs.{needs}
+use mathlib.Core.Path.{sym, _∙_}
+use Rattle.share_boards.proofs.Lends.{start-long, first-refused, first-next}
+use Rattle.share_boards.proofs.keeping.check_start.Statement.{statement}
+use Rattle.share_boards.proofs.keeping.check_start.Tie as tie
+
+check-start-requires : tie.Need-check-start-requires
+check-start-requires c κs = search needs
+
+enum-known-r : tie.Need-enum-known-r
+enum-known-r c = search needs
+
+enum-told : tie.Need-enum-told
+enum-told c = search needs
+
+capacity-of-requires : tie.Need-capacity-of-requires
+capacity-of-requires c κs = start-long _ _ (sym (c .before .before .check-start .ensures) ∙ c .enum-told .given .1)
+
+check-lent-requires : tie.Need-check-lent-requires
+check-lent-requires c κs = search needs
+
+returns : tie.Need-returns
+returns c = first-refused _ _ _ _ _ _ _ (sym (c .before .before .before .check-start .ensures) ∙ c .before .r .given .1)
+
+returns-2 : tie.Need-returns-2
+returns-2 c = first-next _ _ _ _ _ _ _ _ (sym (c .before .before .before .before .check-start .ensures) ∙ c .before .before .enum-told .given .1) (c .before .capacity-of .ensures) (c .check-lent .ensures)
+
+pub check-start-spec : {M : Type 1} → statement M
+check-start-spec =
+    tie.close
+    (tie.spec
+    check-start-requires
+    enum-known-r
+    enum-told
+    capacity-of-requires
+    check-lent-requires
+    returns
+    returns-2)

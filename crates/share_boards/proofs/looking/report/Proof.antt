@@ -1,0 +1,90 @@
+-- `share_boards::looking::report` meets its contract.
+-- Assumes nothing.
+use borrow.Author.Needs.{needs}
+use mathlib.Core.Path.{sym, _∙_}
+use Prim.Native.Nat.{_≤_}
+use native.Mathlib.Omega.{arith}
+use lib.Count.{ones-le}
+use Rattle.share_boards.proofs.Looks.{ready-sized, ready-position, ready-shared, reporting-clear, served-le, count-le, spaced-le, pieces-told}
+use Rattle.share_boards.proofs.looking.report.Statement.{statement}
+use Rattle.share_boards.proofs.looking.report.Tie as tie
+
+-- nothing that is told exceeds the capacity
+bounded : (c : tie.After-spacing) → (c .before .before .weigh .result ≤ 4095) × (c .before .weight-served .result ≤ 4095) × (c .spacing .result ≤ 4095)
+bounded c =
+    let q = reporting-clear _ _ _ _ (sym (c .before .before .before .before .before .before .check-report .ensures) ∙ c .before .before .before .before .enum-told .given .1) in
+    let z = ready-sized _ _ (q .ready) in
+    let few = z .few in
+    let leaves = count-le _ _ _ _ (c .before .before .weigh .ensures) in
+    let served = served-le _ _ _ q in
+    let spaced = spaced-le _ _ _ q in
+    (omega arith, omega (arith, c .before .weight-served .ensures), omega (arith, c .spacing .ensures))
+
+check-report-requires : tie.Need-check-report-requires
+check-report-requires c κs = search needs
+
+enum-known-r : tie.Need-enum-known-r
+enum-known-r c = search needs
+
+enum-told : tie.Need-enum-told
+enum-told c = search needs
+
+cast-c : tie.Need-cast-c
+cast-c c = search needs
+
+weigh-requires : tie.Need-weigh-requires
+weigh-requires c κs =
+    let q = reporting-clear _ _ _ _ (sym (c .before .before .before .check-report .ensures) ∙ c .before .enum-told .given .1) in
+    let z = ready-sized _ _ (q .ready) in
+    (z .long, z .few)
+
+weight-served-requires : tie.Need-weight-served-requires
+weight-served-requires c κs =
+    let q = reporting-clear _ _ _ _ (sym (c .before .before .before .before .check-report .ensures) ∙ c .before .before .enum-told .given .1) in
+    let z = ready-sized _ _ (q .ready) in
+    (z .long, q .ready .rates, z .few, q .held)
+
+spacing-requires : tie.Need-spacing-requires
+spacing-requires c κs =
+    let q = reporting-clear _ _ _ _ (sym (c .before .before .before .before .before .check-report .ensures) ∙ c .before .before .before .enum-told .given .1) in
+    let named = q .named in
+    (ready-position _ _ (q .ready), ready-shared _ _ (q .ready), omega arith, q .held)
+
+cast-t16 : tie.Need-cast-t16
+cast-t16 c = omega (arith, bounded c)
+
+cast-t18 : tie.Need-cast-t18
+cast-t18 c = let b = bounded c in let m = ones-le 12 (c .before .before .weigh .result) (omega arith) in omega arith
+
+cast-t19 : tie.Need-cast-t19
+cast-t19 c = omega (arith, bounded c)
+
+returns : tie.Need-returns
+returns c =
+    let e = sym (c .before .before .before .check-report .ensures) ∙ c .before .r .given .1 in
+    (simp e, simp e)
+
+returns-2 : tie.Need-returns-2
+returns-2 c =
+    let e = sym (c .before .before .before .before .before .before .check-report .ensures) ∙ c .before .before .before .before .enum-told .given .1 in
+    let n = pieces-told _ _ _ (reporting-clear _ _ _ _ e) in
+    let w = c .before .before .weigh .ensures in
+    let r = c .before .weight-served .ensures in
+    (simp (e, w, r, c .spacing .ensures, n), simp (e, w, r, c .spacing .ensures, n))
+
+pub report-spec : {M : Type 1} → statement M
+report-spec =
+    tie.close
+    (tie.spec
+    check-report-requires
+    enum-known-r
+    enum-told
+    cast-c
+    weigh-requires
+    weight-served-requires
+    spacing-requires
+    cast-t16
+    cast-t18
+    cast-t19
+    returns
+    returns-2)

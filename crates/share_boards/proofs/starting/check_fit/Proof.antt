@@ -1,0 +1,26 @@
+-- `share_boards::starting::check_fit` meets its contract.
+-- Assumes nothing.
+use borrow.Author.Needs.{needs}
+use mathlib.Core.Path.{sym, _∙_}
+use Rattle.share_boards.specs.Starting.{fitCheck}
+use Rattle.share_boards.proofs.starting.check_fit.Statement.{statement}
+use Rattle.share_boards.proofs.starting.check_fit.Tie as tie
+
+fits-requires : tie.Need-fits-requires
+fits-requires c κs = search needs
+
+returns : tie.Need-returns
+unfolding fitCheck
+returns c = simp (sym (c .before .fits2 .ensures) ∙ c .if1 .taken)
+
+returns-2 : tie.Need-returns-2
+unfolding fitCheck
+returns-2 c = simp (sym (c .before .fits2 .ensures) ∙ c .if1 .left)
+
+pub check-fit-spec : {M : Type 1} → statement M
+check-fit-spec =
+    tie.close
+    (tie.spec
+    fits-requires
+    returns
+    returns-2)

@@ -1,0 +1,65 @@
+-- `share_boards::starting::save` meets its contract.
+-- Assumes nothing.
+use borrow.Author.Needs.{needs}
+use mathlib.Core.Path.{sym, _∙_}
+use Rattle.share_boards.proofs.Starts.{saving-rates, saving-plain}
+use Rattle.share_boards.proofs.starting.save.Statement.{statement}
+use Rattle.share_boards.proofs.starting.save.Tie as tie
+
+check-save-requires : tie.Need-check-save-requires
+check-save-requires c κs = search needs
+
+enum-known-r : tie.Need-enum-known-r
+enum-known-r c = search needs
+
+enum-told : tie.Need-enum-told
+enum-told c = search needs
+
+cast-c : tie.Need-cast-c
+cast-c c = search needs
+
+all-zero-requires : tie.Need-all-zero-requires
+all-zero-requires c κs = saving-rates _ _ _ _ (sym (c .before .before .before .check-save .ensures) ∙ c .before .enum-told .given .1)
+
+save-requires : tie.Need-save-requires
+save-requires c κs = search needs
+
+sheet-bytes-requires : tie.Need-sheet-bytes-requires
+sheet-bytes-requires c κs = saving-rates _ _ _ _ (sym (c .before .before .before .before .before .before .before .before .before .check-save .ensures) ∙ c .before .before .before .before .before .before .before .enum-told .given .1) .1
+
+returns : tie.Need-returns
+returns c =
+    let e = sym (c .before .before .before .check-save .ensures) ∙ c .before .r .given .1 in
+    (simp e, simp e, simp e)
+
+same-length : tie.Need-same-length
+same-length c = search needs
+
+returns-2 : tie.Need-returns-2
+returns-2 c =
+    let e = sym (c .before .before .before .before .before .before .before .before .before .before .check-save .ensures) ∙ c .before .before .before .before .before .before .before .before .enum-told .given .1 in
+    let none = sym (c .before .before .before .before .before .before .all-zero .ensures) ∙ c .before .before .before .before .before .if1 .taken in
+    let n = c .sheet-bytes .ensures in
+    (simp (e, none, n), simp (e, none, n), simp (e, none, saving-plain _ _ _ _ e, c .before .before .before .save .ensures .2))
+
+returns-3 : tie.Need-returns-3
+returns-3 c =
+    let e = sym (c .before .before .before .before .before .check-save .ensures) ∙ c .before .before .before .enum-told .given .1 in
+    let some = sym (c .before .all-zero .ensures) ∙ c .if1 .left in
+    (simp (e, some), simp (e, some), simp (e, some))
+
+pub save-spec : {M : Type 1} → statement M
+save-spec =
+    tie.close
+    (tie.spec
+    check-save-requires
+    enum-known-r
+    enum-told
+    cast-c
+    all-zero-requires
+    save-requires
+    sheet-bytes-requires
+    returns
+    same-length
+    returns-2
+    returns-3)

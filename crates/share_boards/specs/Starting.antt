@@ -1,0 +1,97 @@
+-- Save and the fresh layout with tables, which are made at the start of a round alone, for every input: what they find, return, and leave of the output (E), the
+-- board and the tables (t). a is the record of the drive that the call is for, which comes back, b that of the other; s is what is lent, O the output of save.
+-- Assumes nothing.
+use mathlib.Core.Path.{_≡_}
+use mathlib.Core.Bool.{Bool, true, false, cond, not}
+use mathlib.Core.List.{List, [], _∷_, _++_}
+use Prim.Native.Nat.{ℕ, max, _*_}
+use lib.Dec.{ltb}
+use lib.ListN.{length, drop}
+use Rattle.pieces.specs.Fresh.{fresh}
+use Rattle.tables.specs.Sharing.{allZero}
+use Rattle.tables.specs.Settling.{settledTable}
+use Rattle.calls.specs.declared.Drive.{Drive}
+use Rattle.calls.specs.declared.Refusal.the-variants.{Midround, Damaged, Output}
+use Rattle.calls.specs.declared.Check.{Check}
+use Rattle.calls.specs.declared.Check.the-variants.{Clear, Refused}
+use Rattle.calls.specs.declared.Refreshed.{Refreshed}
+use Rattle.calls.specs.Refusals.{numberOf, refuseIf, andThen}
+use Rattle.calls.specs.Answers.{Answer, answered, refreshingAnswer}
+use Rattle.calls.specs.Results.{ifClear, refreshingBy}
+use Rattle.sheets.specs.Sheet.{blocks, sheet}
+use Rattle.drives.specs.Checks.{pairCheck, bothStart}
+use Rattle.share_boards.specs.declared.starting.ShareSaving.{ShareSaving}
+use Rattle.share_boards.specs.declared.starting.ShareSaving.the-variants as saving
+use Rattle.share_boards.specs.declared.starting.ShareSaved.{ShareSaved}
+use Rattle.shares.specs.States.{State, lent, fitting}
+use Rattle.shares.specs.Checks.{tooFew}
+
+-- 5, of the whole board and every table.
+unfoldable pub fitCheck : ℕ → State → Check
+fitCheck C s = refuseIf (not (fitting C s)) Damaged Clear
+
+-- 1, 2, 3; 4 if either record is away from the start of a round; 5. The fresh layout has no other refusal.
+unfoldable pub startCheck : Drive → Drive → State → Check
+startCheck a b s =
+    andThen (pairCheck a b (s .board) (tooFew (max (a .capacity) (b .capacity)) s)) (refuseIf (not (bothStart a b)) Midround (fitCheck (a .capacity) s))
+
+-- save: these, then 11 for an output of n bytes. Where none is found, 17 is given last, if an over-allocated stream is held.
+unfoldable pub savingCheck : Drive → Drive → State → ℕ → Check
+savingCheck a b s n = andThen (startCheck a b s) (refuseIf (ltb n (512 * blocks (a .capacity))) Output Clear)
+
+-- No over-allocated stream is held.
+abbrev pub plainKind : Drive → State → Bool
+plainKind a s = allZero (a .capacity) (s .rates)
+
+-- ---- save: the sheet's bytes at the start of the output, and how many they are
+
+-- The number and the value of every case of its answer: 17 KIND and 0.
+abbrev pub savingAnswer : ShareSaving → Answer
+savingAnswer (saving.Done bytes) = record { number = 0; values = bytes ∷ [] }
+savingAnswer saving.Kind = record { number = 17; values = 0 ∷ [] }
+savingAnswer (saving.Refused r) = record { number = numberOf r; values = 0 ∷ [] }
+
+-- By what the checks find, and whether no over-allocated stream is held.
+abbrev pub savingBy : Check → Bool → ℕ → ShareSaving
+savingBy Clear none bytes = cond none (saving.Done bytes) saving.Kind
+savingBy (Refused r) none bytes = saving.Refused r
+
+abbrev pub saved : Drive → Drive → State → List ℕ → ShareSaved
+saved a b s O = record { drive = a; answer = savingBy (savingCheck a b s (length O)) (plainKind a s) (512 * blocks (a .capacity)) }
+
+abbrev pub savedAnswerBy : Check → Bool → ℕ → Answer
+savedAnswerBy Clear true bytes = record { number = 0; values = bytes ∷ [] }
+savedAnswerBy Clear false bytes = record { number = 17; values = 0 ∷ [] }
+savedAnswerBy (Refused r) none bytes = record { number = numberOf r; values = 0 ∷ [] }
+
+abbrev pub savedAnswer : Drive → Drive → State → List ℕ → Answer
+savedAnswer a b s O = savedAnswerBy (savingCheck a b s (length O)) (plainKind a s) (512 * blocks (a .capacity))
+
+abbrev pub savedOutput : Drive → Drive → State → List ℕ → List ℕ
+savedOutput a b s O =
+    let done = sheet (a .capacity) (s .board) ++ drop (512 * blocks (a .capacity)) O in
+    ifClear (savingCheck a b s (length O)) (cond (plainKind a s) done O) O
+
+abbrev pub Saves : Drive → Drive → State → List ℕ → ShareSaved → List ℕ → Type 0
+Saves a b s O r E = (r ≡ saved a b s O) × (savingAnswer (r .answer) ≡ savedAnswer a b s O) × (E ≡ savedOutput a b s O)
+
+-- ---- the fresh layout: an over-allocated stream counts with R, and keeps r and its deficits, which follow to its new lowest leaf
+
+abbrev pub refreshed : Drive → Drive → State → Refreshed
+refreshed a b s = record { drive = a; answer = refreshingBy (startCheck a b s) }
+
+abbrev pub refreshedAnswer : Drive → Drive → State → Answer
+refreshedAnswer a b s = answered (startCheck a b s) []
+
+-- The board laid out afresh, and every table settled on it.
+unfoldable pub afresh : ℕ → State → State
+afresh C s =
+    let B = s .board in
+    let B′ = fresh C B in
+    lent B′ (settledTable C B B′ (s .rates)) (settledTable C B B′ (s .owed)) (settledTable C B B′ (s .other))
+
+abbrev pub refreshedState : Drive → Drive → State → State
+refreshedState a b s = ifClear (startCheck a b s) (afresh (a .capacity) s) s
+
+abbrev pub Refreshes : Drive → Drive → State → Refreshed → State → Type 0
+Refreshes a b s r t = (r ≡ refreshed a b s) × (refreshingAnswer (r .answer) ≡ refreshedAnswer a b s) × (t ≡ refreshedState a b s)
