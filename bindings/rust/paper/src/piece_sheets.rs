@@ -246,7 +246,7 @@ impl<S: PieceSheets> Trial<'_, S> {
     fn sheets(&mut self, random: &mut Random, board: &[u16], record: Record) {
         let sheet = piece_sheet(board, record.position);
         let list = some_list(random, &[]);
-        for kind in 0..16 {
+        for kind in 0..18 {
             let mut damaged = sheet.clone();
             damage(random, kind, &mut damaged);
             if random.one_in(2) && kind != 1 {
@@ -340,9 +340,31 @@ fn damage(random: &mut Random, kind: usize, sheet: &mut Vec<u8>) {
         }
         13 => put(sheet, 2, some_number(random)),
         14 => (0..bytes / 512).for_each(|block| put(sheet, 512 * block + 4, flip.into())),
-        _ => sheet[entry..entry + 6].fill(0),
+        15 => sheet[entry..entry + 6].fill(0),
+        // A block that is not full before the last, where there are two; and one more block that has no entry.
+        16 => sheet[6 + 6 * (ENTRIES - 1)..510].fill(0),
+        _ => {
+            let mut block = sheet[..512].to_vec();
+            block[6..].fill(0);
+            sheet.extend(block);
+            put(sheet, bytes, 32768 + (bytes / 512) as u16);
+        }
     }
 }
+
+/// Sheets of C = 8 at p = 1 whose entries are worked by hand, with what read answers.
+const WORKED: [(&[[u16; 3]], u16); 9] = [
+    (&[], 0),
+    (&[[5, 0, 0], [6, 1, 0]], 0),
+    (&[[5, 0, 2], [5, 4, 1]], 0),
+    // Two entries that are one piece; two pieces of one size; out of order; overlapping; not aligned; beyond every board.
+    (&[[5, 0, 0], [5, 1, 0]], 12),
+    (&[[5, 0, 0], [5, 2, 0]], 5),
+    (&[[6, 1, 0], [5, 0, 0]], 12),
+    (&[[5, 0, 1], [6, 1, 0]], 12),
+    (&[[5, 1, 1]], 12),
+    (&[[5, 0, 65535]], 12),
+];
 
 /// The whole comparison: how many calls were compared.
 pub fn compare(calls: &impl PieceSheets, seeds: u64) -> usize {
@@ -352,6 +374,12 @@ pub fn compare(calls: &impl PieceSheets, seeds: u64) -> usize {
     };
     for seed in 0..seeds {
         trial.board(seed);
+    }
+    for (entries, number) in WORKED {
+        let sheet = bytes_of([[&[32768, 8, 1], entries.concat().as_slice()].concat()].into_iter());
+        let read = calls.read_pieces(&sheet, &mut [0; 8], &mut [0; LENGTH]);
+        assert_eq!(read.number, number, "{entries:?}");
+        trial.read(&sheet, &[9; 9], &[0; LENGTH]);
     }
     // 4,095 pieces are 49 blocks; 84 are one, 85 two.
     for c in [1, 84, 85, 168, 169, 4095] {
