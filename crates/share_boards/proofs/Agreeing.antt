@@ -1,25 +1,25 @@
--- Where the tables are long enough and zero, open, read, round, report, save and the fresh layout with tables are those without: they find, answer and leave the
+-- Where the tables are long enough and zero, open, read and save of each form of sheet, round, report and the fresh layout with tables are those without: they find, answer and leave the
 -- same, and the tables stay as they are.
 -- Assumes nothing.
 use mathlib.Core.Path.{_≡_, refl, _∙_}
 use mathlib.Core.Bool.{Bool, true, false, not, _||_}
 use mathlib.Core.List.{List, [], _∷_, _++_}
-use Prim.Native.Nat.{ℕ, max, _*_}
-use lib.Dec.{ltb}
+use Prim.Native.Nat.{ℕ, max}
 use lib.ListN.{length, drop}
 use Rattle.pieces.specs.Board.{good}
 use Rattle.pieces.specs.Fresh.{fresh}
 use Rattle.tables.proofs.Laws.{Zero, zero-intro, plain-fits, plain-cleared, plain-settled, plain-round, plain-weight}
 use Rattle.calls.specs.declared.Drive.{Drive}
-use Rattle.calls.specs.declared.Refusal.the-variants.{Damaged, Name, Absent, Output}
+use Rattle.calls.specs.declared.Refusal.the-variants.{Damaged, Name, Absent}
 use Rattle.calls.specs.declared.Check.{Check}
 use Rattle.calls.specs.declared.Check.the-variants.{Clear, Refused}
 use Rattle.calls.specs.Refusals.{refuseIf, andThen, askedName, slotMay, slotCheck, reportCheck, heldCheck, changeCheck}
-use Rattle.calls.specs.Answers.{answered}
 use Rattle.calls.specs.Results.{ifClear, idleBoard}
 use Rattle.calls.proofs.Laws.{first-next}
-use Rattle.sheets.specs.Sheet.{blocks, sheet, capacityIn, leavesIn}
-use Rattle.sheets.specs.Results.{saveCheck}
+use Rattle.sheets.specs.Sheet.{capacityIn}
+use Rattle.sheets.specs.Forms as forms
+use Rattle.sheets.specs.Forms.{Form, sizeOf, roomCheck}
+use Rattle.sheets.specs.Results.{leafForm, pieceForm}
 use Rattle.waiting.specs.Layout.{tooShort}
 use Rattle.orders.specs.Checks as single
 use Rattle.orders.specs.Results as alone
@@ -34,7 +34,7 @@ use Rattle.share_boards.specs.Looking as looking
 use Rattle.share_boards.specs.Starting as starting
 use Rattle.shares.proofs.Laws.{share-ready, ready-change}
 use Rattle.share_boards.proofs.Looks.{ready-position, rounding-ready, reporting-clear}
-use Rattle.share_boards.proofs.Starts.{start-both-there, start-ready, save-rest}
+use Rattle.share_boards.proofs.Starts.{start-both-there, start-ready, save-rest, pieces-rest}
 
 then-nothing : (k : Check) → andThen k Clear ≡ k
 then-nothing Clear = refl
@@ -76,23 +76,38 @@ module _ (C : ℕ) (s : State) (L : List ℕ) (n : Bare C s) where
     rw opening-same refl,
   )
 
-module _ (S : List ℕ) (s : State) (L : List ℕ) (n : Bare (capacityIn S) s) where
-  reading-same : keeping.readingCheck S s (length L) ≡ single.readCheck S (s .board) (length L)
-  unfolding keeping.readingCheck keeping.lentCheck single.readingCheck
+module _ (form : Form) (S : List ℕ) (s : State) (L : List ℕ) (n : Bare (capacityIn S) s) where
+  reading-same : keeping.readingCheckAs form S s (length L) ≡ single.readingCheck form S (s .board) (length L)
+  unfolding keeping.readingCheckAs keeping.lentCheck single.readingCheck
   reading-same = rw (n .long, or-nothing (tooShort (length L))) refl
 
+  reads-agree :
+      (keeping.loadedAs form S s (length L) ≡ alone.loadedAs form S (s .board) (length L))
+      × (keeping.loadedAnswerAs form S s (length L) ≡ alone.loadedAnswerAs form S (s .board) (length L))
+      × (keeping.loadedStateAs form S s (length L) ≡ lent (alone.loadedBoardAs form S (s .board) (length L)) (s .rates) (s .owed) (s .other))
+      × (keeping.loadedListAs form S s L ≡ alone.loadedListAs form S (s .board) L)
+  reads-agree =
+      let D = form .leaves (capacityIn S) S ++ drop (capacityIn S) (s .board) in (
+        rw reading-same refl,
+        rw reading-same refl,
+        rw (reading-same, cleared-bare (capacityIn S) s n D) (either-lent (single.readingCheck form S (s .board) (length L)) D s),
+        rw reading-same refl,
+      )
+
+module _ (S : List ℕ) (s : State) (L : List ℕ) (n : Bare (capacityIn S) s) where
   pub read-agrees :
       (keeping.loaded S s (length L) ≡ alone.loaded S (s .board) (length L))
       × (keeping.loadedAnswer S s (length L) ≡ alone.loadedAnswer S (s .board) (length L))
       × (keeping.loadedState S s (length L) ≡ lent (alone.loadedBoard S (s .board) (length L)) (s .rates) (s .owed) (s .other))
       × (keeping.loadedList S s L ≡ alone.loadedList S (s .board) L)
-  read-agrees =
-      let D = leavesIn (capacityIn S) S ++ drop (capacityIn S) (s .board) in (
-        rw reading-same refl,
-        rw reading-same refl,
-        rw (reading-same, cleared-bare (capacityIn S) s n D) (either-lent (single.readCheck S (s .board) (length L)) D s),
-        rw reading-same refl,
-      )
+  read-agrees = reads-agree leafForm S s L n
+
+  pub read-pieces-agrees :
+      (keeping.loadedAs pieceForm S s (length L) ≡ alone.loadedAs pieceForm S (s .board) (length L))
+      × (keeping.loadedAnswerAs pieceForm S s (length L) ≡ alone.loadedAnswerAs pieceForm S (s .board) (length L))
+      × (keeping.loadedStateAs pieceForm S s (length L) ≡ lent (alone.loadedBoardAs pieceForm S (s .board) (length L)) (s .rates) (s .owed) (s .other))
+      × (keeping.loadedListAs pieceForm S s L ≡ alone.loadedListAs pieceForm S (s .board) L)
+  read-pieces-agrees = reads-agree pieceForm S s L n
 
 -- ---- two drives: a good board, and tables whose first C entries are 0
 
@@ -112,8 +127,12 @@ module _ (a b : Drive) (s : State) (n : Blank a b s) where
   look-same = rw (n .long, blank-fit) (then-nothing (pairCheck a b (s .board) false))
 
   pub start-same : starting.startCheck a b s ≡ pair.startCheck a b (s .board)
-  unfolding starting.startCheck starting.fitCheck pair.startCheck
+  unfolding starting.placedCheck starting.fitCheck pair.startCheck
   start-same = rw (n .long, blank-fit) refl
+
+  pub level-agrees : starting.levelCheck a b s ≡ pair.levelCheck a b (s .board)
+  unfolding starting.placedCheck starting.fitCheck pair.levelCheck
+  level-agrees = rw (n .long, blank-fit) refl
 
   -- ---- round
 
@@ -160,26 +179,35 @@ module _ (a b : Drive) (s : State) (n : Blank a b s) where
 
   -- ---- save
 
+  -- A form of sheet, by equal checks before 11.
+  room-same : (F : Form) (m : ℕ) (j k : Check) → j ≡ k → (j ≡ Clear → forms.savingCheck F a (s .board) m ≡ roomCheck m (sizeOf F a (s .board)))
+      → starting.savingCheckAs F j a s m ≡ andThen k (forms.savingCheck F a (s .board) m)
+  unfolding starting.savingCheckAs
+  room-same F m Clear k e rest = rw (← e, rest refl) refl
+  room-same F m (Refused r) k e rest = rw (← e) refl
+
+  saves-agree : (F : Form) (O : List ℕ) (j k : Check) → j ≡ k
+      → (starting.savedAnswerAs F j a s ≡ plain.savedAnswerBy F k a (s .board)) × (starting.savedOutputAs F j a s O ≡ plain.savedOutputBy F k a (s .board) O)
+  saves-agree F O Clear k e = rw (← e, zero-intro (s .rates) (a .capacity) (n .rates)) (refl, refl)
+  saves-agree F O (Refused r) k e = rw (← e) (refl, refl)
+
   saving-same : (m : ℕ) → starting.savingCheck a b s m ≡ pair.pairSaveCheck a b (s .board) m
-  unfolding starting.savingCheck pair.pairSaveCheck
-  saving-same m = go (starting.startCheck a b s) refl
-    where
-      go : (k : Check) → starting.startCheck a b s ≡ k
-          → andThen (starting.startCheck a b s) (refuseIf (ltb m (512 * blocks (a .capacity))) Output Clear) ≡ andThen (pair.startCheck a b (s .board)) (saveCheck a (s .board) m)
-      go (Refused r) e = rw (← start-same, e) refl
-      go Clear e = rw (← start-same, save-rest a b s m e, e) refl
+  unfolding pair.pairSaveCheck
+  saving-same m = room-same leafForm m (starting.startCheck a b s) (pair.startCheck a b (s .board)) start-same (save-rest a b s m)
+
+  saving-pieces-same : (m : ℕ) → starting.savingPiecesCheck a b s m ≡ pair.pairPiecesCheck a b (s .board) m
+  unfolding pair.pairPiecesCheck
+  saving-pieces-same m = room-same pieceForm m (starting.levelCheck a b s) (pair.levelCheck a b (s .board)) level-agrees (pieces-rest a b s m)
 
   -- The answers are of another type, and are compared in numbers.
   pub save-agrees : (O : List ℕ)
       → (starting.savedAnswer a b s O ≡ plain.savedAnswer a b (s .board) O) × (starting.savedOutput a b s O ≡ plain.savedOutput a b (s .board) O)
-  save-agrees O =
-      rw (← saving-same (length O), zero-intro (s .rates) (a .capacity) (n .rates)) (either (starting.savingCheck a b s (length O)))
-    where
-      either : (k : Check)
-          → (starting.savedAnswerBy k true (512 * blocks (a .capacity)) ≡ answered k (512 * blocks (a .capacity) ∷ []))
-          × (ifClear k (sheet (a .capacity) (s .board) ++ drop (512 * blocks (a .capacity)) O) O ≡ ifClear k (sheet (a .capacity) (s .board) ++ drop (512 * blocks (a .capacity)) O) O)
-      either Clear = (refl, refl)
-      either (Refused r) = (refl, refl)
+  save-agrees O = saves-agree leafForm O (starting.savingCheck a b s (length O)) (pair.pairSaveCheck a b (s .board) (length O)) (saving-same (length O))
+
+  pub save-pieces-agrees : (O : List ℕ)
+      → (starting.savedPiecesAnswer a b s O ≡ plain.savedPiecesAnswer a b (s .board) O) × (starting.savedPiecesOutput a b s O ≡ plain.savedPiecesOutput a b (s .board) O)
+  save-pieces-agrees O =
+      saves-agree pieceForm O (starting.savingPiecesCheck a b s (length O)) (pair.pairPiecesCheck a b (s .board) (length O)) (saving-pieces-same (length O))
 
   -- ---- the fresh layout
 

@@ -7,6 +7,7 @@ use lib.ListN.{replicate}
 use Rattle.sequences.specs.Board.{digits, leafAt, servedFrom, nextFrom}
 use Rattle.pieces.specs.Board.{sound, single, pieces, nth, whole, uniform, weight, sum}
 use Rattle.pieces.specs.Placing.{fill, first, fit, spot, put, place}
+use Rattle.pieces.specs.Listing.{named}
 use Rattle.pieces.specs.Fresh.{rising, rank, ranks, laid, largest}
 use Rattle.tables.specs.Sharing.{fits, allZero}
 use Rattle.tables.specs.Settling.{settledTable, clearedTable}
@@ -19,12 +20,13 @@ use Rattle.calls.specs.Refusals.{applies, openCheck, roundCheck, heldCheck}
 use Rattle.calls.specs.Results.{idleBoard}
 use Rattle.calls.specs.Spacing.{spacingIn}
 use Rattle.sheets.specs.Sheet.{blocks}
+use Rattle.sheets.specs.Entries.{entryBlocks}
 use Rattle.drives.specs.Checks.{sizeCheck, placeCheck, pairCheck, bothStart}
 use Rattle.shares.specs.States.{State, lent}
 use Rattle.shares.specs.Checks.{tooFew, shareCheck}
 use Rattle.share_boards.specs.Keeping.{lentCheck, openingCheck, openedState}
 use Rattle.share_boards.specs.Looking.{roundingCheck, reportingCheck, roundedOutput, reportedAnswer}
-use Rattle.share_boards.specs.Starting.{fitCheck, startCheck, savingCheck, savedAnswer, afresh, refreshedState}
+use Rattle.share_boards.specs.Starting.{fitCheck, placedCheck, startCheck, levelCheck, savingCheckAs, savingCheck, savingPiecesCheck, savedAnswer, afresh, refreshedState}
 
 abbrev first-slot : ℕ → Drive
 first-slot C = driveAt C 1
@@ -63,18 +65,25 @@ saves :
     (startCheck (first-slot 4) (driveAt 4 2) (lent (9 ∷ 0 ∷ 0 ∷ 9 ∷ []) zeros zeros zeros) ∷ startCheck (first-slot 4) (first-slot 4) (lent (9 ∷ 0 ∷ 0 ∷ 9 ∷ []) zeros zeros zeros)
     ∷ savingCheck (first-slot 4) (first-slot 4) nine 511 ∷ savingCheck (first-slot 4) (first-slot 4) nine 512 ∷ [])
     ≡ Refused Midround ∷ Refused Damaged ∷ Refused Output ∷ Clear ∷ []
-unfolding startCheck savingCheck fitCheck bothStart tooFew pairCheck sizeCheck placeCheck applies digits fits sound single pieces whole uniform weight blocks
+unfolding placedCheck savingCheckAs fitCheck bothStart tooFew pairCheck sizeCheck placeCheck applies digits fits sound single pieces whole uniform weight blocks
 saves = refl
 
+-- A sheet of pieces: 4 of different positions alone, and 17 last here too.
+saves-pieces :
+    (levelCheck (driveAt 4 2) (first-slot 4) nine ∷ savingPiecesCheck (driveAt 4 2) (driveAt 4 2) nine 511 ∷ savingPiecesCheck (driveAt 4 2) (driveAt 4 2) nine 512 ∷ [])
+    ≡ Refused Midround ∷ Refused Output ∷ Clear ∷ []
+unfolding placedCheck savingCheckAs fitCheck tooFew pairCheck sizeCheck placeCheck applies digits fits sound single pieces whole uniform weight named entryBlocks
+saves-pieces = refl
+
 kind : savedAnswer (first-slot 4) (first-slot 4) (lent (0 ∷ 0 ∷ 6 ∷ 6 ∷ []) (0 ∷ 0 ∷ 2 ∷ 0 ∷ []) zeros zeros) (replicate 512 0) ≡ record { number = 17; values = 0 ∷ [] }
-unfolding savingCheck startCheck fitCheck bothStart tooFew pairCheck sizeCheck placeCheck applies digits fits sound single pieces whole uniform weight blocks allZero
+unfolding savingCheckAs placedCheck fitCheck bothStart tooFew pairCheck sizeCheck placeCheck applies digits fits sound single pieces whole uniform weight blocks allZero
 kind = refl
 
 -- An over-allocated stream of R = 2 and a plain one of weight 2 are ordered by name; r and both deficits follow, and entries beyond C stay.
 relaid :
     refreshedState (first-slot 4) (first-slot 4) (lent (7 ∷ 7 ∷ 5 ∷ 5 ∷ 1 ∷ []) (2 ∷ 0 ∷ 0 ∷ 0 ∷ 3 ∷ []) (1 ∷ 0 ∷ 0 ∷ 0 ∷ []) zeros)
     ≡ lent (5 ∷ 5 ∷ 7 ∷ 7 ∷ 1 ∷ []) (0 ∷ 0 ∷ 2 ∷ 0 ∷ 3 ∷ []) (0 ∷ 0 ∷ 1 ∷ 0 ∷ []) zeros
-unfolding startCheck fitCheck bothStart tooFew pairCheck sizeCheck placeCheck applies digits fits sound single pieces whole uniform weight afresh settledTable rising rank ranks laid largest nth fill first fit spot put place
+unfolding placedCheck fitCheck bothStart tooFew pairCheck sizeCheck placeCheck applies digits fits sound single pieces whole uniform weight afresh settledTable rising rank ranks laid largest nth fill first fit spot put place
 relaid = refl
 
 -- Open clears the first C entries of every table; where one is too short nothing is changed.

@@ -1,15 +1,16 @@
--- The laws of open, read, round, report, save and the fresh layout with tables: no second answer fits; what a refusal leaves as it was; that only the numbers of
+-- The laws of open, read and save of each form of sheet, round, report and the fresh layout with tables: no second answer fits; what a refusal leaves as it was; that only the numbers of
 -- its list are answered; that what open, read and the fresh layout leave fits; and that all are the calls without tables where the tables are zero.
 -- Assumes nothing.
 use mathlib.Core.Path.{_≡_, refl, ap, _∙_}
 use mathlib.Core.Bool.{Bool, true, false, cond, not, _||_}
 use mathlib.Core.List.{List, [], _∷_, _++_}
-use Prim.Native.Nat.{ℕ, max, _*_, _<_}
+use Prim.Native.Nat.{ℕ, max, _<_}
 use native.Mathlib.Omega.{arith}
 use lib.Dec.{eqb, ltb}
 use lib.ListN.{length, getD, replicate, length-replicate, getD-replicate, List·getD-append, drop}
 use borrow.Author.Tests.{ne-eqb}
 use Rattle.sequences.specs.Serving.{countList}
+use Rattle.pieces.specs.Board.{good}
 use Rattle.pieces.proofs.Laws.{opened-good}
 use Rattle.tables.specs.Turns.{roundServes, servedWeight}
 use Rattle.tables.proofs.Laws.{cleared-fits, rated-at, one-piece, round-serves}
@@ -27,31 +28,32 @@ use Rattle.calls.specs.Answers.{Answer, openingAnswer, roundingAnswer, reportAn
 use Rattle.calls.specs.Results.{ifClear, idleBoard}
 use Rattle.calls.proofs.Laws.{unique, Refuses, refuses, refusal, may, Within, within-among, first-within, then-within, if-within, covers, part-within, first-clear, then-clear, leaf-held}
 use Rattle.sheets.specs.declared.Loaded.{Loaded}
-use Rattle.sheets.specs.Sheet.{blocks, sheet, capacityIn, leavesIn, laid}
-use Rattle.sheets.specs.Forms.{readMay, blockCheck, startCheck, loadingAnswer}
+use Rattle.sheets.specs.Sheet.{capacityIn}
+use Rattle.sheets.specs.Forms.{Form, sizeOf, roomCheck, readMay, blockCheck, startCheck, loadingAnswer}
 use Rattle.sheets.specs.Forms as forms
 use Rattle.sheets.specs.Results as sheets
-use Rattle.sheets.proofs.Laws.{read-good}
+use Rattle.sheets.specs.Results.{leafForm, pieceForm}
+use Rattle.sheets.proofs.Laws.{read-good, read-pieces-good}
 use Rattle.waiting.specs.Layout.{tooShort}
 use Rattle.drives.specs.Checks.{pairCheck, bothStart}
 use Rattle.drives.proofs.Laws.{pair-within}
 use Rattle.share_boards.specs.declared.starting.ShareSaved.{ShareSaved}
 use Rattle.shares.specs.States.{State, fitting}
 use Rattle.shares.specs.Checks.{tooFew, shareCheck, lookCheck, Ready}
-use Rattle.share_boards.specs.Keeping.{lentCheck, openingCheck, readingCheck, openedAnswer, openedState, loadedAnswer, loadedState, Opens, Loads}
+use Rattle.share_boards.specs.Keeping.{lentCheck, openingCheck, readingCheckAs, readingCheck, openedAnswer, openedState, loadedAnswerAs, loadedStateAs, loadedAnswer, loadedState, Opens, LoadsAs, Loads, LoadsPieces}
 use Rattle.share_boards.specs.Looking.{roundingCheck, reportingCheck, roundingMay, roundedAnswer, reportedWeight, reportedPieces, reportedAnswer, Rounds, Reports}
 use Rattle.share_boards.specs.Starting as starting
-use Rattle.share_boards.specs.Starting.{fitCheck, savingCheck, savingAnswer, savedAnswer, savedAnswerBy, plainKind, refreshedAnswer, Saves, Refreshes}
+use Rattle.share_boards.specs.Starting.{fitCheck, savingCheckAs, savingCheck, savingPiecesCheck, savingAnswer, savedAnswerBy, savedAnswerAs, savedAnswer, savedPiecesAnswer, plainKind, refreshedAnswer, SavesAs, Saves, SavesPieces, Refreshes}
 use Rattle.share_boards.proofs.Lends.{opening-ready}
 use Rattle.share_boards.proofs.Looks.{ready-sized, ready-shared}
-use Rattle.share_boards.proofs.Starts.{bounds}
+use Rattle.share_boards.proofs.Starts.{bounds, saving-first, level-same}
 -- ---- the checks: once they find nothing the record is ready, and of a name that is reported on there is a leaf
 
 pub use Rattle.share_boards.proofs.Looks.{ready-first, rounding-ready, Reportable, reporting-clear}
 pub use Rattle.share_boards.proofs.Starts.{start-both-there, start-look, start-ready, saving-start}
 -- ---- without over-allocated streams the calls are those without tables, and leave the tables
 
-pub use Rattle.share_boards.proofs.Agreeing.{Bare, open-agrees, read-agrees, Blank, look-same, start-same, round-agrees, report-agrees, save-agrees, fresh-agrees}
+pub use Rattle.share_boards.proofs.Agreeing.{Bare, open-agrees, read-agrees, read-pieces-agrees, Blank, look-same, start-same, level-agrees, round-agrees, report-agrees, save-agrees, save-pieces-agrees, fresh-agrees}
 -- ---- the fresh layout: what it leaves, made again, and from another history
 
 pub use Rattle.share_boards.proofs.Relaid.{fresh-fits, fresh-held, fresh-moves, fresh-keeps, fresh-twice, fresh-equal}
@@ -71,13 +73,13 @@ look-within ns a b s c five none =
     (if-within ns (not (fitting (a .capacity) s)) Damaged Clear five none)
 
 -- 1 to 5.
-start-within : (ns : List ℕ) (a b : Drive) (s : State) → covers ns (1 ∷ 2 ∷ 3 ∷ []) ≡ true → zeroOr 4 ns ≡ true → zeroOr 5 ns ≡ true → zeroOr 0 ns ≡ true
-    → Within ns (starting.startCheck a b s)
-unfolding starting.startCheck fitCheck
-start-within ns a b s c four five none =
-    then-within ns (bounds a b s) (refuseIf (not (bothStart a b)) Midround (fitCheck (a .capacity) s))
+placed-within : (ns : List ℕ) (there : Bool) (a b : Drive) (s : State) → covers ns (1 ∷ 2 ∷ 3 ∷ []) ≡ true → zeroOr 4 ns ≡ true → zeroOr 5 ns ≡ true → zeroOr 0 ns ≡ true
+    → Within ns (starting.placedCheck there a b s)
+unfolding starting.placedCheck fitCheck
+placed-within ns there a b s c four five none =
+    then-within ns (bounds a b s) (refuseIf (not there) Midround (fitCheck (a .capacity) s))
     (part-within ns (1 ∷ 2 ∷ 3 ∷ []) (bounds a b s) c (pair-within a b (s .board) (tooFew (max (a .capacity) (b .capacity)) s)))
-    (if-within ns (not (bothStart a b)) Midround (fitCheck (a .capacity) s) four (if-within ns (not (fitting (a .capacity) s)) Damaged Clear five none))
+    (if-within ns (not there) Midround (fitCheck (a .capacity) s) four (if-within ns (not (fitting (a .capacity) s)) Damaged Clear five none))
 
 -- ---- open
 
@@ -116,43 +118,83 @@ unfolding blockCheck
 block-within ns true twelve none = twelve
 block-within ns false twelve none = none
 
-module _ (S : List ℕ) (s : State) (L : List ℕ) where
-  pub read-unique : {r q : Loaded} {t u : State} {F G : List ℕ} → Loads S s L r t F → Loads S s L q u G → (r ≡ q) × (t ≡ u) × (F ≡ G)
-  read-unique p q = (unique (p .0) (q .0), unique (p .2) (q .2), unique (p .3) (q .3))
+-- of any form of sheet
+module _ (form : Form) (S : List ℕ) (s : State) (L : List ℕ) where
+  loads-unique : {r q : Loaded} {t u : State} {F G : List ℕ} → LoadsAs form S s L r t F → LoadsAs form S s L q u G → (r ≡ q) × (t ≡ u) × (F ≡ G)
+  loads-unique p q = (unique (p .0) (q .0), unique (p .2) (q .2), unique (p .3) (q .3))
 
-  pub read-refused : {r : Loaded} {t : State} {F : List ℕ} → Loads S s L r t F → Refuses (loadingAnswer (r .answer)) → (r .drive ≡ driveAt 0 0) × (t ≡ s) × (F ≡ L)
-  read-refused p h = rw (p .0, p .2, p .3, refusal (readingCheck S s (length L)) (refuses (p .1) h) .1) (refl, refl, refl)
+  loads-refused : {r : Loaded} {t : State} {F : List ℕ} → LoadsAs form S s L r t F → Refuses (loadingAnswer (r .answer)) → (r .drive ≡ driveAt 0 0) × (t ≡ s) × (F ≡ L)
+  loads-refused p h = rw (p .0, p .2, p .3, refusal (readingCheckAs form S s (length L)) (refuses (p .1) h) .1) (refl, refl, refl)
 
-  pub read-answers : among (loadedAnswer S s (length L) .number) readMay ≡ true
-  unfolding readingCheck startCheck openCheck goodCheck zeroOr covers
-  read-answers =
+  loads-answers : among (loadedAnswerAs form S s (length L) .number) readMay ≡ true
+  unfolding readingCheckAs startCheck openCheck goodCheck zeroOr covers
+  loads-answers =
       let ns = numbers readMay in
       let C = capacityIn S in
-      let rest = andThen (blockCheck (not (laid C S))) (goodCheck C (leavesIn C S)) in
-      within-among readMay (readingCheck S s (length L))
-      (then-within ns (startCheck S (s .board)) (andThen (lentCheck C s (length L)) rest)
+      let held = forms.heldCheck form C S in
+      within-among readMay (readingCheckAs form S s (length L))
+      (then-within ns (startCheck S (s .board)) (andThen (lentCheck C s (length L)) held)
       (then-within ns (blockCheck (ltb (length S) 512)) (openCheck C (s .board)) (block-within ns (ltb (length S) 512) refl refl)
       (part-within ns (numbers openMay) (openCheck C (s .board)) refl (first-within openMay (askedOpen C (s .board)))))
-      (then-within ns (lentCheck C s (length L)) rest (lent-within ns C s (length L) refl refl)
-      (then-within ns (blockCheck (not (laid C S))) (goodCheck C (leavesIn C S)) (block-within ns (not (laid C S)) refl refl)
-      (part-within ns (5 ∷ []) (goodCheck C (leavesIn C S)) refl (first-within (Damaged ∷ []) (asked (driveAt C 1) (leavesIn C S)))))))
+      (then-within ns (lentCheck C s (length L)) held (lent-within ns C s (length L) refl refl)
+      (then-within ns (blockCheck (not (form .laid C S))) (goodCheck C (form .leaves C S)) (block-within ns (not (form .laid C S)) refl refl)
+      (part-within ns (5 ∷ []) (goodCheck C (form .leaves C S)) refl (first-within (Damaged ∷ []) (asked (driveAt C 1) (form .leaves C S)))))))
+
+  loads-accepts : readingCheckAs form S s (length L) ≡ Clear → forms.readingCheck form S (s .board) ≡ Clear
+  unfolding readingCheckAs forms.readingCheck
+  loads-accepts e =
+      let C = capacityIn S in
+      let held = forms.heldCheck form C S in
+      let later = then-clear (startCheck S (s .board)) (andThen (lentCheck C s (length L)) held) e in
+      rw (first-clear (startCheck S (s .board)) (andThen (lentCheck C s (length L)) held) e) (then-clear (lentCheck C s (length L)) held later)
+
+  loads-fits : good (capacityIn S) (form .leaves (capacityIn S) S ++ drop (capacityIn S) (s .board)) ≡ true → readingCheckAs form S s (length L) ≡ Clear
+      → fitting (capacityIn S) (loadedStateAs form S s (length L)) ≡ true
+  loads-fits g e = rw e (cleared-fits (capacityIn S) (form .leaves (capacityIn S) S ++ drop (capacityIn S) (s .board)) (s .rates) (s .owed ∷ s .other ∷ []) g)
+
+module _ (S : List ℕ) (s : State) (L : List ℕ) where
+  pub read-unique : {r q : Loaded} {t u : State} {F G : List ℕ} → Loads S s L r t F → Loads S s L q u G → (r ≡ q) × (t ≡ u) × (F ≡ G)
+  read-unique = loads-unique leafForm S s L
+
+  pub read-refused : {r : Loaded} {t : State} {F : List ℕ} → Loads S s L r t F → Refuses (loadingAnswer (r .answer)) → (r .drive ≡ driveAt 0 0) × (t ≡ s) × (F ≡ L)
+  read-refused = loads-refused leafForm S s L
+
+  pub read-answers : among (loadedAnswer S s (length L) .number) readMay ≡ true
+  read-answers = loads-answers leafForm S s L
 
   pub read-may : {r : Loaded} {t : State} {F : List ℕ} → Loads S s L r t F → among (loadingAnswer (r .answer) .number) readMay ≡ true
   read-may p = may readMay (p .1) read-answers
 
   -- What is accepted is accepted without tables,
   pub read-accepts : readingCheck S s (length L) ≡ Clear → sheets.readCheck S (s .board) ≡ Clear
-  unfolding readingCheck forms.readingCheck
-  read-accepts e =
-      let C = capacityIn S in
-      let rest = andThen (blockCheck (not (laid C S))) (goodCheck C (leavesIn C S)) in
-      let later = then-clear (startCheck S (s .board)) (andThen (lentCheck C s (length L)) rest) e in
-      rw (first-clear (startCheck S (s .board)) (andThen (lentCheck C s (length L)) rest) e) (then-clear (lentCheck C s (length L)) rest later)
+  read-accepts = loads-accepts leafForm S s L
 
   -- and what it leaves fits.
   pub read-fits : readingCheck S s (length L) ≡ Clear → fitting (capacityIn S) (loadedState S s (length L)) ≡ true
-  read-fits e =
-      rw e (cleared-fits (capacityIn S) (leavesIn (capacityIn S) S ++ drop (capacityIn S) (s .board)) (s .rates) (s .owed ∷ s .other ∷ []) (read-good S (s .board) (read-accepts e)))
+  read-fits e = loads-fits leafForm S s L (read-good S (s .board) (read-accepts e)) e
+
+-- ---- read of a sheet of pieces
+
+module _ (S : List ℕ) (s : State) (L : List ℕ) where
+  pub read-pieces-unique : {r q : Loaded} {t u : State} {F G : List ℕ} → LoadsPieces S s L r t F → LoadsPieces S s L q u G → (r ≡ q) × (t ≡ u) × (F ≡ G)
+  read-pieces-unique = loads-unique pieceForm S s L
+
+  pub read-pieces-refused : {r : Loaded} {t : State} {F : List ℕ} → LoadsPieces S s L r t F → Refuses (loadingAnswer (r .answer)) → (r .drive ≡ driveAt 0 0) × (t ≡ s) × (F ≡ L)
+  read-pieces-refused = loads-refused pieceForm S s L
+
+  pub read-pieces-answers : among (loadedAnswerAs pieceForm S s (length L) .number) readMay ≡ true
+  read-pieces-answers = loads-answers pieceForm S s L
+
+  pub read-pieces-may : {r : Loaded} {t : State} {F : List ℕ} → LoadsPieces S s L r t F → among (loadingAnswer (r .answer) .number) readMay ≡ true
+  read-pieces-may p = may readMay (p .1) read-pieces-answers
+
+  -- What is accepted is accepted without tables,
+  pub read-pieces-accepts : readingCheckAs pieceForm S s (length L) ≡ Clear → forms.readingCheck pieceForm S (s .board) ≡ Clear
+  read-pieces-accepts = loads-accepts pieceForm S s L
+
+  -- and what it leaves fits.
+  pub read-pieces-fits : readingCheckAs pieceForm S s (length L) ≡ Clear → fitting (capacityIn S) (loadedStateAs pieceForm S s (length L)) ≡ true
+  read-pieces-fits e = loads-fits pieceForm S s L (read-pieces-good S (s .board) (read-pieces-accepts e)) e
 
 -- ---- round
 
@@ -223,27 +265,60 @@ kind-within ns Clear true n kind m = m
 kind-within ns Clear false n kind m = kind
 kind-within ns (Refused r) none n kind m = m
 
+-- of any form of sheet, by what the check k finds
+module _ (form : Form) (k : Check) (a : Drive) (s : State) (O : List ℕ) where
+  saves-unique : {r q : ShareSaved} {E F : List ℕ} → SavesAs form k a s O r E → SavesAs form k a s O q F → (r ≡ q) × (E ≡ F)
+  saves-unique p q = (unique (p .0) (q .0), unique (p .2) (q .2))
+
+  saves-refused : {r : ShareSaved} {E : List ℕ} → SavesAs form k a s O r E → Refuses (savingAnswer (r .answer))
+      → (r .drive ≡ a) × (savingAnswer (r .answer) .values ≡ 0 ∷ []) × (E ≡ O)
+  saves-refused p h =
+      let m = sizeOf form a (s .board) in
+      let n = not-saved k (plainKind a s) m (form .sheet (a .capacity) (a .position) (s .board) ++ drop m O) O (refuses (p .1) h) in
+      (ap (λ (r : ShareSaved). r .drive) (p .0), ap (λ (x : Answer). x .values) (p .1) ∙ n .0, p .2 ∙ n .1)
+
+saves-answers : (form : Form) (there : Bool) (a b : Drive) (s : State) (n : ℕ)
+    → zeroOr (savedAnswerAs form (savingCheckAs form (starting.placedCheck there a b s) a s n) a s .number) (1 ∷ 2 ∷ 3 ∷ 4 ∷ 5 ∷ 11 ∷ 17 ∷ []) ≡ true
+unfolding savingCheckAs covers zeroOr
+saves-answers form there a b s n =
+    let ns : List ℕ = 1 ∷ 2 ∷ 3 ∷ 4 ∷ 5 ∷ 11 ∷ 17 ∷ [] in
+    let m = sizeOf form a (s .board) in
+    kind-within ns (savingCheckAs form (starting.placedCheck there a b s) a s n) (plainKind a s) m refl
+    (then-within ns (starting.placedCheck there a b s) (roomCheck n m) (placed-within ns there a b s refl refl refl refl) (if-within ns (ltb n m) Output Clear refl refl))
+
 module _ (a b : Drive) (s : State) (O : List ℕ) where
   pub save-unique : {r q : ShareSaved} {E F : List ℕ} → Saves a b s O r E → Saves a b s O q F → (r ≡ q) × (E ≡ F)
-  save-unique p q = (unique (p .0) (q .0), unique (p .2) (q .2))
+  save-unique = saves-unique leafForm (savingCheck a b s (length O)) a s O
 
   pub save-refused : {r : ShareSaved} {E : List ℕ} → Saves a b s O r E → Refuses (savingAnswer (r .answer))
       → (r .drive ≡ a) × (savingAnswer (r .answer) .values ≡ 0 ∷ []) × (E ≡ O)
-  save-refused p h =
-      let m = 512 * blocks (a .capacity) in
-      let n = not-saved (savingCheck a b s (length O)) (plainKind a s) m (sheet (a .capacity) (s .board) ++ drop m O) O (refuses (p .1) h) in
-      (ap (λ (r : ShareSaved). r .drive) (p .0), ap (λ (x : Answer). x .values) (p .1) ∙ n .0, p .2 ∙ n .1)
+  save-refused = saves-refused leafForm (savingCheck a b s (length O)) a s O
 
   pub save-answers : zeroOr (savedAnswer a b s O .number) (1 ∷ 2 ∷ 3 ∷ 4 ∷ 5 ∷ 11 ∷ 17 ∷ []) ≡ true
-  unfolding savingCheck covers zeroOr
-  save-answers =
-      let ns : List ℕ = 1 ∷ 2 ∷ 3 ∷ 4 ∷ 5 ∷ 11 ∷ 17 ∷ [] in
-      let short = ltb (length O) (512 * blocks (a .capacity)) in
-      kind-within ns (savingCheck a b s (length O)) (plainKind a s) (512 * blocks (a .capacity)) refl
-      (then-within ns (starting.startCheck a b s) (refuseIf short Output Clear) (start-within ns a b s refl refl refl refl) (if-within ns short Output Clear refl refl))
+  save-answers = saves-answers leafForm (bothStart a b) a b s (length O)
 
   pub save-may : {r : ShareSaved} {E : List ℕ} → Saves a b s O r E → zeroOr (savingAnswer (r .answer) .number) (1 ∷ 2 ∷ 3 ∷ 4 ∷ 5 ∷ 11 ∷ 17 ∷ []) ≡ true
   save-may p = rw (p .1) save-answers
+
+-- ---- save of a sheet of pieces: 4 where the drives are at different positions
+
+module _ (a b : Drive) (s : State) (O : List ℕ) where
+  pub save-pieces-unique : {r q : ShareSaved} {E F : List ℕ} → SavesPieces a b s O r E → SavesPieces a b s O q F → (r ≡ q) × (E ≡ F)
+  save-pieces-unique = saves-unique pieceForm (savingPiecesCheck a b s (length O)) a s O
+
+  pub save-pieces-refused : {r : ShareSaved} {E : List ℕ} → SavesPieces a b s O r E → Refuses (savingAnswer (r .answer))
+      → (r .drive ≡ a) × (savingAnswer (r .answer) .values ≡ 0 ∷ []) × (E ≡ O)
+  save-pieces-refused = saves-refused pieceForm (savingPiecesCheck a b s (length O)) a s O
+
+  pub save-pieces-answers : zeroOr (savedPiecesAnswer a b s O .number) (1 ∷ 2 ∷ 3 ∷ 4 ∷ 5 ∷ 11 ∷ 17 ∷ []) ≡ true
+  save-pieces-answers = saves-answers pieceForm (eqb (a .position) (b .position)) a b s (length O)
+
+  pub save-pieces-may : {r : ShareSaved} {E : List ℕ} → SavesPieces a b s O r E → zeroOr (savingAnswer (r .answer) .number) (1 ∷ 2 ∷ 3 ∷ 4 ∷ 5 ∷ 11 ∷ 17 ∷ []) ≡ true
+  save-pieces-may p = rw (p .1) save-pieces-answers
+
+  -- Where it finds nothing both drives are at the position that is saved.
+  pub save-pieces-level : savingPiecesCheck a b s (length O) ≡ Clear → a .position ≡ b .position
+  save-pieces-level e = level-same a b s (saving-first pieceForm (starting.levelCheck a b s) a s (length O) e)
 
 -- ---- the fresh layout
 
@@ -256,7 +331,7 @@ module _ (a b : Drive) (s : State) where
 
   pub fresh-answers : among (refreshedAnswer a b s .number) changeMay ≡ true
   unfolding covers zeroOr
-  fresh-answers = within-among changeMay (starting.startCheck a b s) (start-within (numbers changeMay) a b s refl refl refl refl)
+  fresh-answers = within-among changeMay (starting.startCheck a b s) (placed-within (numbers changeMay) (bothStart a b) a b s refl refl refl refl)
 
   pub fresh-may : {r : Refreshed} {t : State} → Refreshes a b s r t → among (refreshingAnswer (r .answer) .number) changeMay ≡ true
   fresh-may p = may changeMay (p .1) fresh-answers

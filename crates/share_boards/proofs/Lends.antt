@@ -1,7 +1,7 @@
 -- What the code of open and read needs: what is known once nothing that is lent is too short, and that both are then as without tables.
 -- Assumes nothing.
 use mathlib.Core.Path.{_≡_, refl, sym, ap, _∙_}
-use mathlib.Core.Bool.{Bool, true, false, not, _||_}
+use mathlib.Core.Bool.{Bool, true, false, _||_}
 use mathlib.Core.List.{List, []}
 use Prim.Native.Nat.{ℕ, _≤_}
 use native.Mathlib.Omega.{arith}
@@ -15,18 +15,18 @@ use Rattle.calls.specs.declared.Check.{Check}
 use Rattle.calls.specs.declared.Check.the-variants.{Clear, Refused}
 use Rattle.calls.specs.declared.Opened.{Opened}
 use Rattle.calls.specs.Records.{driveAt}
-use Rattle.calls.specs.Refusals.{refuseIf, andThen, openCheck, goodCheck}
+use Rattle.calls.specs.Refusals.{refuseIf, andThen, openCheck}
 use Rattle.calls.proofs.Laws.{first-clear, then-clear, open-clear}
 use Rattle.sheets.specs.declared.Loaded.{Loaded}
 use Rattle.sheets.specs.declared.Loading.the-variants as loading
-use Rattle.sheets.specs.Sheet.{capacityIn, leavesIn, laid}
-use Rattle.sheets.specs.Forms.{blockCheck, startCheck, loadingBy}
+use Rattle.sheets.specs.Sheet.{capacityIn}
+use Rattle.sheets.specs.Forms.{Form, blockCheck, startCheck, heldCheck, loadingBy}
 use Rattle.waiting.specs.Layout.{tooShort}
 use Rattle.orders.specs.Checks as plain
 use Rattle.orders.specs.Promises as plainly
 use Rattle.shares.specs.States.{State, lent}
 use Rattle.shares.specs.Checks.{tooFew}
-use Rattle.share_boards.specs.Keeping.{lentCheck, openingCheck, readingCheck, Opens, Loads}
+use Rattle.share_boards.specs.Keeping.{lentCheck, openingCheck, readingCheckAs, Opens, LoadsAs}
 use Rattle.shares.proofs.Laws.{few-long}
 
 pub refuse-clear : (t : Bool) (r : Refusal) (k : Check) → refuseIf t r k ≡ Clear → (t ≡ false) × (k ≡ Clear)
@@ -128,12 +128,10 @@ module _ (S B T E F : List ℕ) (n : ℕ) where
   first-next c k e i h = rw e (h ∙ rw i (lent-tables (capacityIn S) B T E F n))
 
 -- refused by these it is refused,
-pub reading-refused : (S : List ℕ) (s : State) (n : ℕ) (r : Refusal) → firstCheck S s n ≡ Refused r → readingCheck S s n ≡ Refused r
-unfolding readingCheck
-reading-refused S s n r e =
-    let C = capacityIn S in
-    let rest = andThen (blockCheck (not (laid C S))) (goodCheck C (leavesIn C S)) in
-    then-then (startCheck S (s .board)) (lentCheck C s n) rest ∙ rw e refl
+pub reading-refused : (form : Form) (S : List ℕ) (s : State) (n : ℕ) (r : Refusal) → firstCheck S s n ≡ Refused r → readingCheckAs form S s n ≡ Refused r
+unfolding readingCheckAs
+reading-refused form S s n r e =
+    then-then (startCheck S (s .board)) (lentCheck (capacityIn S) s n) (heldCheck form (capacityIn S) S) ∙ rw e refl
 
 -- and else it is read as without tables
 module _ (S : List ℕ) (s : State) (n : ℕ) (e : firstCheck S s n ≡ Clear) where
@@ -143,9 +141,9 @@ module _ (S : List ℕ) (s : State) (n : ℕ) (e : firstCheck S s n ≡ Clear) w
   reading-lent : lentCheck (capacityIn S) s n ≡ Clear
   reading-lent = then-clear (startCheck S (s .board)) (lentCheck (capacityIn S) s n) e
 
-  pub reading-plain : readingCheck S s n ≡ plain.readCheck S (s .board) n
-  unfolding readingCheck plain.readingCheck
-  reading-plain = rw (reading-start, reading-lent, le-ltb n 259 (lent-long (capacityIn S) s n reading-lent .0)) refl
+  pub reading-plain : (form : Form) → readingCheckAs form S s n ≡ plain.readingCheck form S (s .board) n
+  unfolding readingCheckAs plain.readingCheck
+  reading-plain form = rw (reading-start, reading-lent, le-ltb n 259 (lent-long (capacityIn S) s n reading-lent .0)) refl
 
   pub reading-ready : (capacityIn S ≤ 4095) × (capacityIn S ≤ length (s .rates)) × (capacityIn S ≤ length (s .owed)) × (capacityIn S ≤ length (s .other))
   reading-ready =
@@ -153,28 +151,28 @@ module _ (S : List ℕ) (s : State) (n : ℕ) (e : firstCheck S s n ≡ Clear) w
       (start-few S (s .board) reading-start, l .1, l .2, l .3)
 
 -- x is the result of the plain read, D and M the board and the list that it leaves
-module _ (S B T E F L : List ℕ) (e : firstCheck S (lent B T E F) (length L) ≡ Clear) {x : Loaded} {D M : List ℕ} (p : plainly.Loads S B L x D M) where
-  pub read-refused : (r : Refusal) → x .answer ≡ loading.Refused r → Loads S (lent B T E F) L (record { drive = x .drive; answer = loading.Refused r }) (lent D T E F) M
+module _ (form : Form) (S B T E F L : List ℕ) (e : firstCheck S (lent B T E F) (length L) ≡ Clear) {x : Loaded} {D M : List ℕ} (p : plainly.LoadsAs form S B L x D M) where
+  pub read-refused : (r : Refusal) → x .answer ≡ loading.Refused r → LoadsAs form S (lent B T E F) L (record { drive = x .drive; answer = loading.Refused r }) (lent D T E F) M
   read-refused r h =
-      let q = reading-plain S (lent B T E F) (length L) e in
-      let k = loading-refused (plain.readCheck S B (length L)) r (sym (ap (λ (y : Loaded). y .answer) (p .0)) ∙ h) in
+      let q = reading-plain S (lent B T E F) (length L) e form in
+      let k = loading-refused (plain.readingCheck form S B (length L)) r (sym (ap (λ (y : Loaded). y .answer) (p .0)) ∙ h) in
       let d : x .drive ≡ driveAt 0 0 = ap (λ (y : Loaded). y .drive) (p .0) ∙ rw k refl in
       let b : D ≡ B = p .2 ∙ rw k refl in
       let m : M ≡ L = p .3 ∙ rw k refl in
       rw (q, k, d, b, m) (refl, refl, refl, refl)
 
   module _ (h : x .answer ≡ loading.Done) where
-    accepted : plain.readCheck S B (length L) ≡ Clear
-    accepted = loading-done (plain.readCheck S B (length L)) (sym (ap (λ (y : Loaded). y .answer) (p .0)) ∙ h)
+    accepted : plain.readingCheck form S B (length L) ≡ Clear
+    accepted = loading-done (plain.readingCheck form S B (length L)) (sym (ap (λ (y : Loaded). y .answer) (p .0)) ∙ h)
 
-    record-read : x .drive ≡ driveAt (capacityIn S) 1
+    record-read : x .drive ≡ driveAt (capacityIn S) (form .position S)
     record-read = ap (λ (y : Loaded). y .drive) (p .0) ∙ rw accepted refl
 
     pub read-ready : (x .drive .capacity ≤ 4095) × (x .drive .capacity ≤ length T) × (x .drive .capacity ≤ length E) × (x .drive .capacity ≤ length F)
     read-ready = rw record-read (reading-ready S (lent B T E F) (length L) e)
 
     pub read-done : {T′ E′ F′ : List ℕ} → T′ ≡ clearedTable (x .drive .capacity) T → E′ ≡ clearedTable (x .drive .capacity) E → F′ ≡ clearedTable (x .drive .capacity) F
-        → Loads S (lent B T E F) L (record { drive = x .drive; answer = loading.Done }) (lent D T′ E′ F′) M
+        → LoadsAs form S (lent B T E F) L (record { drive = x .drive; answer = loading.Done }) (lent D T′ E′ F′) M
     read-done t u v =
-        let q = reading-plain S (lent B T E F) (length L) e in
+        let q = reading-plain S (lent B T E F) (length L) e form in
         rw (t, u, v, p .2, p .3, record-read, q, accepted) (refl, refl, refl, refl)

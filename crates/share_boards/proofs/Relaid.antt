@@ -24,7 +24,7 @@ use Rattle.calls.proofs.Laws.{by-bool}
 use Rattle.drives.specs.Checks.{pairCheck, sizeCheck}
 use Rattle.shares.specs.States.{State, fitting}
 use Rattle.shares.specs.Checks.{tooFew}
-use Rattle.share_boards.specs.Starting.{fitCheck, startCheck, afresh, refreshedState}
+use Rattle.share_boards.specs.Starting.{fitCheck, placedCheck, startCheck, afresh, refreshedState}
 use Rattle.share_boards.proofs.Looks.{ready-sized}
 use Rattle.share_boards.proofs.Starts.{start-ready}
 
@@ -123,7 +123,7 @@ board-length C s few long = fresh-length C (s .board) few long
 
 module _ (a b : Drive) (s : State) where
   again-clear : startCheck a b s ≡ Clear → startCheck a b (afresh (a .capacity) s) ≡ startCheck a b s
-  unfolding startCheck fitCheck
+  unfolding placedCheck fitCheck
   again-clear e =
       let r = start-ready a b s e in
       let z = ready-sized a s r in

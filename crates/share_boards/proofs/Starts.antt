@@ -1,13 +1,13 @@
 -- What the code of save and of the fresh layout needs: their checks part by part, and what is known once they find nothing.
 -- Assumes nothing.
 use mathlib.Core.Path.{_≡_, refl, _∙_}
-use mathlib.Core.Bool.{true, false, not}
+use mathlib.Core.Bool.{Bool, true, false, not}
 use mathlib.Core.List.{List, [], _∷_}
-use Prim.Native.Nat.{ℕ, max, _*_, _≤_, _<_}
+use Prim.Native.Nat.{ℕ, max, _≤_, _<_}
 use native.Mathlib.Omega.{arith}
-use lib.Dec.{eqb, ltb}
+use lib.Dec.{eqb}
 use lib.ListN.{length}
-use borrow.Author.Tests.{eq-eqb, lt-ltb, le-ltb, not-false}
+use borrow.Author.Tests.{eq-eqb, eqb-true, lt-ltb, le-ltb, not-false}
 use Rattle.pieces.specs.Board.{good}
 use Rattle.pieces.specs.Fresh.{fresh}
 use Rattle.tables.specs.Settling.{settledTable, Alike}
@@ -20,14 +20,14 @@ use Rattle.calls.specs.declared.Check.the-variants.{Clear, Refused}
 use Rattle.calls.specs.declared.Refreshing.the-variants as refreshing
 use Rattle.calls.specs.Refusals.{refuseIf, andThen, askedOutput, slotMay, slotCheck}
 use Rattle.calls.proofs.Laws.{first-next, first-clear, then-clear}
-use Rattle.sheets.specs.Sheet.{blocks}
 use Rattle.sheets.specs.Forms as forms
-use Rattle.sheets.specs.Results.{saveCheck}
+use Rattle.sheets.specs.Forms.{Form, sizeOf, roomCheck}
+use Rattle.sheets.specs.Results.{saveCheck, leafForm, pieceForm}
 use Rattle.drives.specs.Checks.{pairCheck, bothStart}
 use Rattle.drives.proofs.Laws.{start-both}
 use Rattle.shares.specs.States.{State, lent}
 use Rattle.shares.specs.Checks.{tooFew, shareCheck, lookCheck, Ready}
-use Rattle.share_boards.specs.Starting.{fitCheck, startCheck, savingCheck, afresh, Refreshes}
+use Rattle.share_boards.specs.Starting.{fitCheck, placedCheck, startCheck, levelCheck, savingCheckAs, savingCheck, plainKind, savedOutputAs, afresh, Refreshes}
 use Rattle.shares.proofs.Laws.{share-ready}
 use Rattle.share_boards.proofs.Lends.{refuse-clear}
 use Rattle.share_boards.proofs.Looks.{ready-sized, ready-shared}
@@ -38,89 +38,129 @@ use Rattle.share_boards.proofs.Looks.{ready-sized, ready-shared}
 abbrev pub bounds : Drive → Drive → State → Check
 bounds a b s = pairCheck a b (s .board) (tooFew (max (a .capacity) (b .capacity)) s)
 
-module _ (a b : Drive) (s : State) where
-  pub start-refused : (r : Refusal) → bounds a b s ≡ Refused r → Refused r ≡ startCheck a b s
-  unfolding startCheck
-  start-refused r e = rw e refl
+module _ (there : Bool) (a b : Drive) (s : State) where
+  pub placed-refused : (r : Refusal) → bounds a b s ≡ Refused r → Refused r ≡ placedCheck there a b s
+  unfolding placedCheck
+  placed-refused r e = rw e refl
 
-  pub start-away : bounds a b s ≡ Clear → bothStart a b ≡ false → Refused Midround ≡ startCheck a b s
-  unfolding startCheck
-  start-away e f = rw (e, f) refl
+  pub placed-away : bounds a b s ≡ Clear → there ≡ false → Refused Midround ≡ placedCheck there a b s
+  unfolding placedCheck
+  placed-away e f = rw (e, f) refl
 
-  pub start-next : (k : Check) → bounds a b s ≡ Clear → bothStart a b ≡ true → k ≡ fitCheck (a .capacity) s → k ≡ startCheck a b s
-  unfolding startCheck
-  start-next k e t h = rw (e, t) h
+  pub placed-next : (k : Check) → bounds a b s ≡ Clear → there ≡ true → k ≡ fitCheck (a .capacity) s → k ≡ placedCheck there a b s
+  unfolding placedCheck
+  placed-next k e t h = rw (e, t) h
 
 -- ---- what is known once nothing is found
 
-module _ (a b : Drive) (s : State) (e : startCheck a b s ≡ Clear) where
-  start-bounds : bounds a b s ≡ Clear
-  unfolding startCheck
-  start-bounds = first-clear (bounds a b s) (refuseIf (not (bothStart a b)) Midround (fitCheck (a .capacity) s)) e
+module _ (there : Bool) (a b : Drive) (s : State) (e : placedCheck there a b s ≡ Clear) where
+  placed-bounds : bounds a b s ≡ Clear
+  unfolding placedCheck
+  placed-bounds = first-clear (bounds a b s) (refuseIf (not there) Midround (fitCheck (a .capacity) s)) e
 
-  start-rest : (not (bothStart a b) ≡ false) × (fitCheck (a .capacity) s ≡ Clear)
-  unfolding startCheck
-  start-rest =
-      refuse-clear (not (bothStart a b)) Midround (fitCheck (a .capacity) s)
-      (then-clear (bounds a b s) (refuseIf (not (bothStart a b)) Midround (fitCheck (a .capacity) s)) e)
+  placed-rest : (not there ≡ false) × (fitCheck (a .capacity) s ≡ Clear)
+  unfolding placedCheck
+  placed-rest =
+      refuse-clear (not there) Midround (fitCheck (a .capacity) s)
+      (then-clear (bounds a b s) (refuseIf (not there) Midround (fitCheck (a .capacity) s)) e)
 
-  pub start-both-there : bothStart a b ≡ true
-  start-both-there = not-false (bothStart a b) (start-rest .0)
+  pub placed-there : there ≡ true
+  placed-there = not-false there (placed-rest .0)
 
   -- what the calls find that look at any position
-  pub start-look : lookCheck a b s ≡ Clear
+  pub placed-look : lookCheck a b s ≡ Clear
   unfolding shareCheck fitCheck
-  start-look = rw start-bounds (start-rest .1)
+  placed-look = rw placed-bounds (placed-rest .1)
+
+  pub placed-ready : Ready a s
+  placed-ready = share-ready a b s false placed-look
+
+  pub placed-few : a .capacity ≤ 4095
+  placed-few = ready-sized a s placed-ready .few
+
+  -- what listing the pieces asks
+  pub placed-board : (a .capacity ≤ length (s .board)) × (a .capacity ≤ 4095)
+  placed-board = let z = ready-sized a s placed-ready in (z .long, z .few)
+
+  -- what the test for KIND asks
+  pub placed-rates : (a .capacity ≤ length (s .rates)) × (a .capacity ≤ 4095)
+  placed-rates = (placed-ready .rates, placed-few)
+
+module _ (a b : Drive) (s : State) (e : startCheck a b s ≡ Clear) where
+  pub start-both-there : bothStart a b ≡ true
+  start-both-there = placed-there (bothStart a b) a b s e
+
+  pub start-look : lookCheck a b s ≡ Clear
+  start-look = placed-look (bothStart a b) a b s e
 
   pub start-ready : Ready a s
-  start-ready = share-ready a b s false start-look
+  start-ready = placed-ready (bothStart a b) a b s e
+
+-- Both drives are at the position that a sheet of pieces is saved with.
+pub level-same : (a b : Drive) (s : State) → levelCheck a b s ≡ Clear → a .position ≡ b .position
+level-same a b s e = eqb-true (a .position) (b .position) (placed-there (eqb (a .position) (b .position)) a b s e)
 
 -- ---- save
 
--- The checks of save without tables, one part after the other.
+-- The checks of each save without tables, one part after the other.
 save-parts : (d : Drive) (B : List ℕ) (n : ℕ)
     → saveCheck d B n
-    ≡ andThen (slotCheck d B) (refuseIf (not (eqb (d .position) 1)) Midround (refuseIf (not (good (d .capacity) B)) Damaged (refuseIf (ltb n (512 * blocks (d .capacity))) Output Clear)))
+    ≡ andThen (slotCheck d B) (refuseIf (not (eqb (d .position) 1)) Midround (refuseIf (not (good (d .capacity) B)) Damaged (roomCheck n (sizeOf leafForm d B))))
 unfolding forms.savingCheck slotCheck
-save-parts d B n = first-next slotMay (Midround ∷ Damaged ∷ Output ∷ []) (askedOutput d B n (512 * blocks (d .capacity)))
+save-parts d B n = first-next slotMay (Midround ∷ Damaged ∷ Output ∷ []) (askedOutput d B n (sizeOf leafForm d B))
+
+pieces-parts : (d : Drive) (B : List ℕ) (n : ℕ)
+    → forms.savingCheck pieceForm d B n ≡ andThen (slotCheck d B) (refuseIf (not (good (d .capacity) B)) Damaged (roomCheck n (sizeOf pieceForm d B)))
+unfolding forms.savingCheck slotCheck
+pieces-parts d B n = first-next slotMay (Damaged ∷ Output ∷ []) (askedOutput d B n (sizeOf pieceForm d B))
 
 -- Once 1 to 5 find nothing there is 11 left of them.
-pub save-rest : (a b : Drive) (s : State) (n : ℕ) → startCheck a b s ≡ Clear → saveCheck a (s .board) n ≡ refuseIf (ltb n (512 * blocks (a .capacity))) Output Clear
+pub save-rest : (a b : Drive) (s : State) (n : ℕ) → startCheck a b s ≡ Clear → saveCheck a (s .board) n ≡ roomCheck n (sizeOf leafForm a (s .board))
 save-rest a b s n e =
     let r = start-ready a b s e in
     let at = start-both a b (start-both-there a b s e) .0 in
     save-parts a (s .board) n ∙ rw (r .clear, eq-eqb (a .position) 1 at, ready-shared a s r .sound) refl
 
-module _ (a b : Drive) (s : State) (n : ℕ) where
-  pub saving-refused : (r : Refusal) → startCheck a b s ≡ Refused r → Refused r ≡ savingCheck a b s n
-  unfolding savingCheck
+pub pieces-rest : (a b : Drive) (s : State) (n : ℕ) → levelCheck a b s ≡ Clear
+    → forms.savingCheck pieceForm a (s .board) n ≡ roomCheck n (sizeOf pieceForm a (s .board))
+pieces-rest a b s n e =
+    let r = placed-ready (eqb (a .position) (b .position)) a b s e in
+    pieces-parts a (s .board) n ∙ rw (r .clear, ready-shared a s r .sound) refl
+
+-- A form of sheet, and the check k before 11.
+module _ (F : Form) (k : Check) (a : Drive) (s : State) (n : ℕ) where
+  pub saving-refused : (r : Refusal) → k ≡ Refused r → Refused r ≡ savingCheckAs F k a s n
+  unfolding savingCheckAs
   saving-refused r e = rw e refl
 
-  module _ (e : startCheck a b s ≡ Clear) where
-    pub saving-short : (m : ℕ) → m ≡ 512 * blocks (a .capacity) → n < m → Refused Output ≡ savingCheck a b s n
-    unfolding savingCheck
-    saving-short m is h = rw (e, lt-ltb n (512 * blocks (a .capacity)) (omega arith)) refl
+  module _ (e : k ≡ Clear) (m : ℕ) (is : m ≡ sizeOf F a (s .board)) where
+    pub saving-short : n < m → Refused Output ≡ savingCheckAs F k a s n
+    unfolding savingCheckAs
+    saving-short h = rw (e, lt-ltb n (sizeOf F a (s .board)) (omega arith)) refl
 
-    pub saving-room : (m : ℕ) → m ≡ 512 * blocks (a .capacity) → m ≤ n → Clear ≡ savingCheck a b s n
-    unfolding savingCheck
-    saving-room m is h = rw (e, le-ltb n (512 * blocks (a .capacity)) (omega arith)) refl
+    pub saving-room : m ≤ n → Clear ≡ savingCheckAs F k a s n
+    unfolding savingCheckAs
+    saving-room h = rw (e, le-ltb n (sizeOf F a (s .board)) (omega arith)) refl
 
-  module _ (e : savingCheck a b s n ≡ Clear) where
-    pub saving-start : startCheck a b s ≡ Clear
-    unfolding savingCheck
-    saving-start = first-clear (startCheck a b s) (refuseIf (ltb n (512 * blocks (a .capacity))) Output Clear) e
+  module _ (e : savingCheckAs F k a s n ≡ Clear) where
+    pub saving-first : k ≡ Clear
+    unfolding savingCheckAs
+    saving-first = first-clear k (roomCheck n (sizeOf F a (s .board))) e
 
-    -- what the test for KIND asks
-    pub saving-rates : (a .capacity ≤ length (s .rates)) × (a .capacity ≤ 4095)
-    saving-rates =
-        let r = start-ready a b s saving-start in
-        (r .rates, ready-sized a s r .few)
+    room-found : roomCheck n (sizeOf F a (s .board)) ≡ Clear
+    unfolding savingCheckAs
+    room-found = then-clear k (roomCheck n (sizeOf F a (s .board))) e
 
-    -- the plain save finds nothing either
-    pub saving-plain : saveCheck a (s .board) n ≡ Clear
-    unfolding savingCheck
-    saving-plain =
-        save-rest a b s n saving-start ∙ then-clear (startCheck a b s) (refuseIf (ltb n (512 * blocks (a .capacity))) Output Clear) e
+-- What is written where nothing is found and no over-allocated stream is held: what the save without tables writes, where it has 11 left alone.
+pub save-writes : (F : Form) (k : Check) (a : Drive) (s : State) (O E : List ℕ) → savingCheckAs F k a s (length O) ≡ Clear → plainKind a s ≡ true
+    → forms.savingCheck F a (s .board) (length O) ≡ roomCheck (length O) (sizeOf F a (s .board)) → E ≡ forms.savedOutputAs F a (s .board) O
+    → E ≡ savedOutputAs F (savingCheckAs F k a s (length O)) a s O
+save-writes F k a s O E e none rest h =
+    let p : forms.savingCheck F a (s .board) (length O) ≡ Clear = rest ∙ room-found F k a s (length O) e in
+    h ∙ rw (e, none, p) refl
+
+pub saving-start : (a b : Drive) (s : State) (n : ℕ) → savingCheck a b s n ≡ Clear → startCheck a b s ≡ Clear
+saving-start a b s n e = saving-first leafForm (startCheck a b s) a s n e
 
 -- ---- the fresh layout
 

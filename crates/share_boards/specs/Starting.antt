@@ -1,24 +1,26 @@
--- Save and the fresh layout with tables, which are made at the start of a round alone, for every input: what they find, return, and leave of the output (E), the
--- board and the tables (t). a is the record of the drive that the call is for, which comes back, b that of the other; s is what is lent, O the output of save.
+-- Save of each form of sheet and the fresh layout with tables, for every input: what they find, return, and leave of the output (E), the board and the tables (t).
+-- Each is made only where both drives are at one place: the start of a round, or for a sheet of pieces any position. a is the record of the drive that the call is
+-- for, which comes back, b that of the other; s is what is lent, O the output of save.
 -- Assumes nothing.
 use mathlib.Core.Path.{_≡_}
 use mathlib.Core.Bool.{Bool, true, false, cond, not}
 use mathlib.Core.List.{List, [], _∷_, _++_}
-use Prim.Native.Nat.{ℕ, max, _*_}
-use lib.Dec.{ltb}
+use Prim.Native.Nat.{ℕ, max}
+use lib.Dec.{eqb}
 use lib.ListN.{length, drop}
 use Rattle.pieces.specs.Fresh.{fresh}
 use Rattle.tables.specs.Sharing.{allZero}
 use Rattle.tables.specs.Settling.{settledTable}
 use Rattle.calls.specs.declared.Drive.{Drive}
-use Rattle.calls.specs.declared.Refusal.the-variants.{Midround, Damaged, Output}
+use Rattle.calls.specs.declared.Refusal.the-variants.{Midround, Damaged}
 use Rattle.calls.specs.declared.Check.{Check}
 use Rattle.calls.specs.declared.Check.the-variants.{Clear, Refused}
 use Rattle.calls.specs.declared.Refreshed.{Refreshed}
 use Rattle.calls.specs.Refusals.{numberOf, refuseIf, andThen}
 use Rattle.calls.specs.Answers.{Answer, answered, refreshingAnswer}
 use Rattle.calls.specs.Results.{ifClear, refreshingBy}
-use Rattle.sheets.specs.Sheet.{blocks, sheet}
+use Rattle.sheets.specs.Forms.{Form, sizeOf, roomCheck}
+use Rattle.sheets.specs.Results.{leafForm, pieceForm}
 use Rattle.drives.specs.Checks.{pairCheck, bothStart}
 use Rattle.share_boards.specs.declared.starting.ShareSaving.{ShareSaving}
 use Rattle.share_boards.specs.declared.starting.ShareSaving.the-variants as saving
@@ -30,14 +32,28 @@ use Rattle.shares.specs.Checks.{tooFew}
 unfoldable pub fitCheck : ℕ → State → Check
 fitCheck C s = refuseIf (not (fitting C s)) Damaged Clear
 
--- 1, 2, 3; 4 if either record is away from the start of a round; 5. The fresh layout has no other refusal.
-unfoldable pub startCheck : Drive → Drive → State → Check
-startCheck a b s =
-    andThen (pairCheck a b (s .board) (tooFew (max (a .capacity) (b .capacity)) s)) (refuseIf (not (bothStart a b)) Midround (fitCheck (a .capacity) s))
+-- 1, 2, 3; 4 unless the drives are where the call is made; 5.
+unfoldable pub placedCheck : Bool → Drive → Drive → State → Check
+placedCheck there a b s =
+    andThen (pairCheck a b (s .board) (tooFew (max (a .capacity) (b .capacity)) s)) (refuseIf (not there) Midround (fitCheck (a .capacity) s))
 
--- save: these, then 11 for an output of n bytes. Where none is found, 17 is given last, if an over-allocated stream is held.
-unfoldable pub savingCheck : Drive → Drive → State → ℕ → Check
-savingCheck a b s n = andThen (startCheck a b s) (refuseIf (ltb n (512 * blocks (a .capacity))) Output Clear)
+-- 4 if either record is away from the start of a round. The fresh layout has no other refusal.
+abbrev pub startCheck : Drive → Drive → State → Check
+startCheck a b s = placedCheck (bothStart a b) a b s
+
+-- 4 if the records are at different positions.
+abbrev pub levelCheck : Drive → Drive → State → Check
+levelCheck a b s = placedCheck (eqb (a .position) (b .position)) a b s
+
+-- save of a form of sheet: what the check k finds, then 11 for an output of n bytes. Where none is found, 17 is given last, if an over-allocated stream is held.
+unfoldable pub savingCheckAs : Form → Check → Drive → State → ℕ → Check
+savingCheckAs F k a s n = andThen k (roomCheck n (sizeOf F a (s .board)))
+
+abbrev pub savingCheck : Drive → Drive → State → ℕ → Check
+savingCheck a b s n = savingCheckAs leafForm (startCheck a b s) a s n
+
+abbrev pub savingPiecesCheck : Drive → Drive → State → ℕ → Check
+savingPiecesCheck a b s n = savingCheckAs pieceForm (levelCheck a b s) a s n
 
 -- No over-allocated stream is held.
 abbrev pub plainKind : Drive → State → Bool
@@ -56,24 +72,51 @@ abbrev pub savingBy : Check → Bool → ℕ → ShareSaving
 savingBy Clear none bytes = cond none (saving.Done bytes) saving.Kind
 savingBy (Refused r) none bytes = saving.Refused r
 
-abbrev pub saved : Drive → Drive → State → List ℕ → ShareSaved
-saved a b s O = record { drive = a; answer = savingBy (savingCheck a b s (length O)) (plainKind a s) (512 * blocks (a .capacity)) }
-
 abbrev pub savedAnswerBy : Check → Bool → ℕ → Answer
 savedAnswerBy Clear true bytes = record { number = 0; values = bytes ∷ [] }
 savedAnswerBy Clear false bytes = record { number = 17; values = 0 ∷ [] }
 savedAnswerBy (Refused r) none bytes = record { number = numberOf r; values = 0 ∷ [] }
 
+-- Of a form of sheet, by what the check k finds.
+abbrev pub savedAs : Form → Check → Drive → State → ShareSaved
+savedAs F k a s = record { drive = a; answer = savingBy k (plainKind a s) (sizeOf F a (s .board)) }
+
+abbrev pub savedAnswerAs : Form → Check → Drive → State → Answer
+savedAnswerAs F k a s = savedAnswerBy k (plainKind a s) (sizeOf F a (s .board))
+
+abbrev pub savedOutputAs : Form → Check → Drive → State → List ℕ → List ℕ
+savedOutputAs F k a s O =
+    let done = F .sheet (a .capacity) (a .position) (s .board) ++ drop (sizeOf F a (s .board)) O in
+    ifClear k (cond (plainKind a s) done O) O
+
+abbrev pub SavesAs : Form → Check → Drive → State → List ℕ → ShareSaved → List ℕ → Type 0
+SavesAs F k a s O r E = (r ≡ savedAs F k a s) × (savingAnswer (r .answer) ≡ savedAnswerAs F k a s) × (E ≡ savedOutputAs F k a s O)
+
+-- The sheet of leaves,
+abbrev pub saved : Drive → Drive → State → List ℕ → ShareSaved
+saved a b s O = savedAs leafForm (savingCheck a b s (length O)) a s
+
 abbrev pub savedAnswer : Drive → Drive → State → List ℕ → Answer
-savedAnswer a b s O = savedAnswerBy (savingCheck a b s (length O)) (plainKind a s) (512 * blocks (a .capacity))
+savedAnswer a b s O = savedAnswerAs leafForm (savingCheck a b s (length O)) a s
 
 abbrev pub savedOutput : Drive → Drive → State → List ℕ → List ℕ
-savedOutput a b s O =
-    let done = sheet (a .capacity) (s .board) ++ drop (512 * blocks (a .capacity)) O in
-    ifClear (savingCheck a b s (length O)) (cond (plainKind a s) done O) O
+savedOutput a b s O = savedOutputAs leafForm (savingCheck a b s (length O)) a s O
 
 abbrev pub Saves : Drive → Drive → State → List ℕ → ShareSaved → List ℕ → Type 0
-Saves a b s O r E = (r ≡ saved a b s O) × (savingAnswer (r .answer) ≡ savedAnswer a b s O) × (E ≡ savedOutput a b s O)
+Saves a b s O r E = SavesAs leafForm (savingCheck a b s (length O)) a s O r E
+
+-- and that of pieces, with the position that both drives are at.
+abbrev pub savedPieces : Drive → Drive → State → List ℕ → ShareSaved
+savedPieces a b s O = savedAs pieceForm (savingPiecesCheck a b s (length O)) a s
+
+abbrev pub savedPiecesAnswer : Drive → Drive → State → List ℕ → Answer
+savedPiecesAnswer a b s O = savedAnswerAs pieceForm (savingPiecesCheck a b s (length O)) a s
+
+abbrev pub savedPiecesOutput : Drive → Drive → State → List ℕ → List ℕ
+savedPiecesOutput a b s O = savedOutputAs pieceForm (savingPiecesCheck a b s (length O)) a s O
+
+abbrev pub SavesPieces : Drive → Drive → State → List ℕ → ShareSaved → List ℕ → Type 0
+SavesPieces a b s O r E = SavesAs pieceForm (savingPiecesCheck a b s (length O)) a s O r E
 
 -- ---- the fresh layout: an over-allocated stream counts with R, and keeps r and its deficits, which follow to its new lowest leaf
 

@@ -142,3 +142,40 @@ pub fn read(
         }
     }
 }
+
+// Reads a sheet of pieces, at the position that it has, empties the list, and clears the tables.
+pub fn read_pieces(
+    sheet: &[u8],
+    board: &mut [u16],
+    list: &mut [u64],
+    rates: &mut [u16],
+    owed: &mut [u16],
+    owed_other: &mut [u16],
+) -> Loaded
+    ensures { λ r. ⌜ keeping.LoadsPieces (now (sheet .entry)) (states.lent (now (board .entry)) (now (rates .entry)) (now (owed .entry)) (now («owed_other» .entry))) (now (list .entry)) r (states.lent (now (board .exit)) (now (rates .exit)) (now (owed .exit)) (now («owed_other» .exit))) (now (list .exit)) ⌝ }
+{
+    match check_start(sheet, board, list.len(), rates, owed, owed_other) {
+        Check::Refused(r) => Loaded {
+            drive: Drive::new(0, 0),
+            answer: Loading::Refused(r),
+        },
+        Check::Clear => {
+            let loaded = orders::read_pieces(sheet, board, list);
+            let drive = loaded.drive;
+            let answer = loaded.answer;
+            match answer {
+                Loading::Refused(r) => Loaded {
+                    drive,
+                    answer: Loading::Refused(r),
+                },
+                Loading::Done => {
+                    clear_tables(drive.capacity as usize, rates, owed, owed_other);
+                    Loaded {
+                        drive,
+                        answer: Loading::Done,
+                    }
+                }
+            }
+        }
+    }
+}

@@ -1,8 +1,10 @@
-// Save and the fresh layout where tables are lent: the calls that are made at the start of a round alone.
+// Save of each form of sheet and the fresh layout where tables are lent: the calls that are made only where both drives are at one place.
 ghost use mathlib.Core.Path.{_≡_};
 ghost use Prim.Native.Nat.{_*_, _≤_};
-ghost use lib.ListN.{length};
+ghost use lib.ListN.{length, replicate};
+ghost use Rattle.pieces.specs.Listing.{namedPieces};
 ghost use Rattle.sheets.specs.Sheet.{blocks};
+ghost use Rattle.sheets.specs.Entries.{entryBlocks};
 ghost use Rattle.shares.specs.States as states;
 ghost use Rattle.share_boards.specs.Starting as starting;
 use calls::Check;
@@ -35,7 +37,33 @@ fn check_fit(board: &[u16], c: usize, rates: &[u16], owed: &[u16], owed_other: &
     }
 }
 
-// The refusals 1 to 5.
+// The refusals 1 to 5. `there` says that the drives are where the call is made.
+fn check_placed(
+    there: bool,
+    own: Drive,
+    other: Drive,
+    board: &[u16],
+    rates: &[u16],
+    owed: &[u16],
+    owed_other: &[u16],
+) -> Check
+    ensures { λ r. ⌜ r ≡ starting.placedCheck there own other (states.lent (now (board .entry)) (now (rates .entry)) (now (owed .entry)) (now («owed_other» .entry))) ⌝ }
+{
+    let c = drives::larger(own.capacity as usize, other.capacity as usize);
+    let few = shares::lacks(false, c, rates, owed, owed_other);
+    match drives::check_pair(own, other, board, few) {
+        Check::Refused(r) => Check::Refused(r),
+        Check::Clear => {
+            if there {
+                check_fit(board, own.capacity as usize, rates, owed, owed_other)
+            } else {
+                Check::Refused(Refusal::Midround)
+            }
+        }
+    }
+}
+
+// At the start of a round,
 fn check_start(
     own: Drive,
     other: Drive,
@@ -46,18 +74,23 @@ fn check_start(
 ) -> Check
     ensures { λ r. ⌜ r ≡ starting.startCheck own other (states.lent (now (board .entry)) (now (rates .entry)) (now (owed .entry)) (now («owed_other» .entry))) ⌝ }
 {
-    let c = drives::larger(own.capacity as usize, other.capacity as usize);
-    let few = shares::lacks(false, c, rates, owed, owed_other);
-    match drives::check_pair(own, other, board, few) {
-        Check::Refused(r) => Check::Refused(r),
-        Check::Clear => {
-            if drives::both_start(own, other) {
-                check_fit(board, own.capacity as usize, rates, owed, owed_other)
-            } else {
-                Check::Refused(Refusal::Midround)
-            }
-        }
-    }
+    let there = drives::both_start(own, other);
+    check_placed(there, own, other, board, rates, owed, owed_other)
+}
+
+// and at one position.
+fn check_level(
+    own: Drive,
+    other: Drive,
+    board: &[u16],
+    rates: &[u16],
+    owed: &[u16],
+    owed_other: &[u16],
+) -> Check
+    ensures { λ r. ⌜ r ≡ starting.levelCheck own other (states.lent (now (board .entry)) (now (rates .entry)) (now (owed .entry)) (now («owed_other» .entry))) ⌝ }
+{
+    let there = own.position == other.position;
+    check_placed(there, own, other, board, rates, owed, owed_other)
 }
 
 // How many bytes the sheet of c leaves has.
@@ -116,6 +149,86 @@ pub fn save(
                 ShareSaved {
                     drive: own,
                     answer: ShareSaving::Done(sheet_bytes(c)),
+                }
+            } else {
+                ShareSaved {
+                    drive: own,
+                    answer: ShareSaving::Kind,
+                }
+            }
+        }
+    }
+}
+
+// A list of no pieces. The array is made here and nowhere else, so that no other proof computes it.
+fn no_list() -> [u16; 12288]
+    ensures { λ r. ⌜ r ≡ replicate 12288 0 ⌝ }
+{
+    [0u16; 12288]
+}
+
+// How many bytes the sheet of the pieces of c leaves has.
+fn pieces_bytes(board: &[u16], c: usize) -> usize
+    requires { ⌜ (c ≤ length (now board)) × (c ≤ 4095) ⌝ }
+    ensures { λ r. ⌜ r ≡ 512 * entryBlocks (length (namedPieces c (now (board .entry)))) ⌝ }
+{
+    let mut list = no_list();
+    let n = pieces::listing::list_pieces(board, c, &mut list);
+    if n == 0 {
+        return 512;
+    }
+    512 * ((n - 1) / 252 + 1)
+}
+
+// The refusals 1 to 5 and 11, of an output of so many bytes for a sheet of pieces.
+fn check_save_pieces(
+    own: Drive,
+    other: Drive,
+    board: &[u16],
+    rates: &[u16],
+    owed: &[u16],
+    owed_other: &[u16],
+    output: usize,
+) -> Check
+    ensures { λ r. ⌜ r ≡ starting.savingPiecesCheck own other (states.lent (now (board .entry)) (now (rates .entry)) (now (owed .entry)) (now («owed_other» .entry))) output ⌝ }
+{
+    match check_level(own, other, board, rates, owed, owed_other) {
+        Check::Refused(r) => Check::Refused(r),
+        Check::Clear => {
+            if output < pieces_bytes(board, own.capacity as usize) {
+                Check::Refused(Refusal::Output)
+            } else {
+                Check::Clear
+            }
+        }
+    }
+}
+
+// Saves the board at any position that both drives are at: the sheet of its pieces at the start of the output. 17 comes last, while an over-allocated stream is
+// held.
+pub fn save_pieces(
+    own: Drive,
+    other: Drive,
+    board: &[u16],
+    rates: &[u16],
+    owed: &[u16],
+    owed_other: &[u16],
+    output: &mut [u8],
+) -> ShareSaved
+    ensures { λ r. ⌜ starting.SavesPieces own other (states.lent (now (board .entry)) (now (rates .entry)) (now (owed .entry)) (now («owed_other» .entry))) (now (output .entry)) r (now (output .exit)) ⌝ }
+{
+    match check_save_pieces(own, other, board, rates, owed, owed_other, output.len()) {
+        Check::Refused(r) => ShareSaved {
+            drive: own,
+            answer: ShareSaving::Refused(r),
+        },
+        Check::Clear => {
+            let c = own.capacity as usize;
+            if tables::all_zero(rates, c) {
+                sheets::save_pieces(own, board, output);
+                ShareSaved {
+                    drive: own,
+                    answer: ShareSaving::Done(pieces_bytes(board, c)),
                 }
             } else {
                 ShareSaved {

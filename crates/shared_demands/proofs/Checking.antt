@@ -35,7 +35,7 @@ pub record Lent (a b : Drive) (s : State) (n : ℕ) : Type 0 where
   pub others : a .capacity ≤ length (s .other)
   pub fit : fitting (a .capacity) s ≡ true
 
-neither : (s t : Bool) → (s || t) ≡ false → (s ≡ false) × (t ≡ false)
+pub neither : (s t : Bool) → (s || t) ≡ false → (s ≡ false) × (t ≡ false)
 neither true t e = let z : _≡_ {A = ℕ} 0 1 = cc in absurd (omega arith)
 neither false t e = (refl, e)
 

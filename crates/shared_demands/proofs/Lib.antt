@@ -1,4 +1,4 @@
--- The demands with over-allocated streams stand in Laws. The rest is inner.
+-- The demands with over-allocated streams stand in Laws, for a single drive in OneDrive. The rest is inner.
 mod Checking
 mod Turning
 mod Fitting
@@ -9,5 +9,8 @@ mod Serving
 mod Damaging
 mod Refusing
 mod Promised
+mod Beginning
+mod Single
 pub mod Laws
+pub mod OneDrive
 mod Examples

@@ -47,7 +47,7 @@ run-list s = by-bool (bothStart (s .own) (s .other))
     (λ t. rw t (run-length (s .list) (outcomes (doing (s .own)) (saying (s .own)) (s .state) (waiting (s .list)))))
     (λ f. rw f refl)
 
-list-length : (a : Deed) (s : Pair) → length (listAfter a s) ≡ length (s .list)
+pub list-length : (a : Deed) (s : Pair) → length (listAfter a s) ≡ length (s .list)
 list-length (Changes o) s = amended.by-way (s .list) o (wayAt o s)
 list-length Slots s = amended.by-check (firstChecks s) (listThen (s .own) (s .other) (s .state) (s .list)) (s .list) (run-list s)
 list-length (Fetches t) s = fetch-length (s .list) t

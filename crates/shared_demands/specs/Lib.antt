@@ -1,3 +1,4 @@
 pub mod Turns
 pub mod Holding
 pub mod Refusing
+pub mod Singles

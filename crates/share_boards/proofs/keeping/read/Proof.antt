@@ -2,6 +2,7 @@
 -- Assumes nothing.
 use borrow.Author.Needs.{needs}
 use mathlib.Core.Path.{sym, _∙_}
+use Rattle.sheets.specs.Results.{leafForm}
 use Rattle.share_boards.proofs.Lends.{reading-refused, read-refused, read-ready, read-done}
 use Rattle.share_boards.proofs.keeping.read.Statement.{statement}
 use Rattle.share_boards.proofs.keeping.read.Tie as tie
@@ -31,7 +32,7 @@ cast-clear-tables : tie.Need-cast-clear-tables
 cast-clear-tables c = search needs
 
 clear-tables-requires : tie.Need-clear-tables-requires
-clear-tables-requires c κs = read-ready _ _ _ _ _ (c .before .before .before .before .before .before .before .before .before .before .before .before .before .before .before .before .before .before .before .before .before .before .before .before .before .before .before .args .list .now) (sym (c .before .before .before .before .before .before .before .before .before .before .before .before .before .before .before .before .check-start .ensures) ∙ c .before .before .before .before .before .before .before .before .before .before .before .before .before .before .enum-told .given .1) (c .before .before .before .before .before .before .before .before .before .before .before .read .ensures) (c .before .before .before .before .enum-told2 .given .1)
+clear-tables-requires c κs = read-ready leafForm _ _ _ _ _ (c .before .before .before .before .before .before .before .before .before .before .before .before .before .before .before .before .before .before .before .before .before .before .before .before .before .before .before .args .list .now) (sym (c .before .before .before .before .before .before .before .before .before .before .before .before .before .before .before .before .check-start .ensures) ∙ c .before .before .before .before .before .before .before .before .before .before .before .before .before .before .enum-told .given .1) (c .before .before .before .before .before .before .before .before .before .before .before .read .ensures) (c .before .before .before .before .enum-told2 .given .1)
 
 same-length : tie.Need-same-length
 same-length c = search needs
@@ -47,7 +48,7 @@ same-length-4 c = search needs
 
 returns : tie.Need-returns
 returns c =
-    let e = reading-refused _ _ _ _ (sym (c .before .before .before .before .check-start .ensures) ∙ c .before .before .r .given .1) in
+    let e = reading-refused leafForm _ _ _ _ (sym (c .before .before .before .before .check-start .ensures) ∙ c .before .before .r .given .1) in
     (simp (e, c .new .ensures), simp e, simp e, simp e)
 
 same-length-5 : tie.Need-same-length-5
@@ -66,7 +67,7 @@ same-length-9 : tie.Need-same-length-9
 same-length-9 c = search needs
 
 returns-2 : tie.Need-returns-2
-returns-2 c = read-refused _ _ _ _ _ (c .before .before .before .before .before .before .before .before .before .before .before .before .before .before .before .before .before .before .before .before .before .before .before .before .args .list .now) (sym (c .before .before .before .before .before .before .before .before .before .before .before .before .before .check-start .ensures) ∙ c .before .before .before .before .before .before .before .before .before .before .before .enum-told .given .1) (c .before .before .before .before .before .before .before .before .read .ensures) _ (c .before .answer .given .1)
+returns-2 c = read-refused leafForm _ _ _ _ _ (c .before .before .before .before .before .before .before .before .before .before .before .before .before .before .before .before .before .before .before .before .before .before .before .before .args .list .now) (sym (c .before .before .before .before .before .before .before .before .before .before .before .before .before .check-start .ensures) ∙ c .before .before .before .before .before .before .before .before .before .before .before .enum-told .given .1) (c .before .before .before .before .before .before .before .before .read .ensures) _ (c .before .answer .given .1)
 
 same-length-10 : tie.Need-same-length-10
 same-length-10 c = search needs
@@ -86,7 +87,7 @@ same-length-14 c = search needs
 returns-3 : tie.Need-returns-3
 returns-3 c =
     let k = c .before .before .before .before .before .before .clear-tables .ensures in
-    read-done _ _ _ _ _ (c .before .before .before .before .before .before .before .before .before .before .before .before .before .before .before .before .before .before .before .before .before .before .before .before .before .before .before .before .before .before .before .before .before .before .args .list .now) (sym (c .before .before .before .before .before .before .before .before .before .before .before .before .before .before .before .before .before .before .before .before .before .before .before .check-start .ensures) ∙ c .before .before .before .before .before .before .before .before .before .before .before .before .before .before .before .before .before .before .before .before .before .enum-told .given .1) (c .before .before .before .before .before .before .before .before .before .before .before .before .before .before .before .before .before .before .read .ensures) (c .before .before .before .before .before .before .before .before .before .before .before .enum-told2 .given .1) (k .0) (k .1) (k .2)
+    read-done leafForm _ _ _ _ _ (c .before .before .before .before .before .before .before .before .before .before .before .before .before .before .before .before .before .before .before .before .before .before .before .before .before .before .before .before .before .before .before .before .before .before .args .list .now) (sym (c .before .before .before .before .before .before .before .before .before .before .before .before .before .before .before .before .before .before .before .before .before .before .before .check-start .ensures) ∙ c .before .before .before .before .before .before .before .before .before .before .before .before .before .before .before .before .before .before .before .before .before .enum-told .given .1) (c .before .before .before .before .before .before .before .before .before .before .before .before .before .before .before .before .before .before .read .ensures) (c .before .before .before .before .before .before .before .before .before .before .before .enum-told2 .given .1) (k .0) (k .1) (k .2)
 
 pub read-spec : {M : Type 1} → statement M
 read-spec =

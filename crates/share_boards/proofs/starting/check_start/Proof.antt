@@ -1,81 +1,18 @@
 -- `share_boards::starting::check_start` meets its contract.
 -- Assumes nothing.
 use borrow.Author.Needs.{needs}
-use mathlib.Core.Path.{sym, _∙_}
-use mathlib.Core.Bool.{false}
-use Rattle.shares.specs.States.{lent}
-use Rattle.shares.proofs.Laws.{pair-is, found-lengths}
-use Rattle.share_boards.proofs.Starts.{start-refused, start-away, start-next}
+use mathlib.Core.Path.{_∙_}
 use Rattle.share_boards.proofs.starting.check_start.Statement.{statement}
 use Rattle.share_boards.proofs.starting.check_start.Tie as tie
-
-cast-larger : tie.Need-cast-larger
-cast-larger c = search needs
-
-cast-larger-2 : tie.Need-cast-larger-2
-cast-larger-2 c = search needs
-
-larger-requires : tie.Need-larger-requires
-larger-requires c κs = search needs
-
-lacks-requires : tie.Need-lacks-requires
-lacks-requires c κs = search needs
-
-check-pair-requires : tie.Need-check-pair-requires
-check-pair-requires c κs = search needs
-
-enum-known-r : tie.Need-enum-known-r
-enum-known-r c = search needs
-
-enum-told : tie.Need-enum-told
-enum-told c = search needs
 
 both-start-requires : tie.Need-both-start-requires
 both-start-requires c κs = search needs
 
-cast-check-fit : tie.Need-cast-check-fit
-cast-check-fit c = search needs
-
-check-fit-requires : tie.Need-check-fit-requires
-check-fit-requires c κs =
-    let a = c .before .before .before .before .before .before .before .before .before .before .before .before .before .before .args in
-    let s = lent (a .board .now) (a .rates .now) (a .owed .now) (a .owed-other .now) in
-    found-lengths _ _ s false _ _ _ (c .before .before .before .before .before .before .before .larger .ensures) (c .before .before .before .before .before .before .lacks .ensures) (c .before .before .before .before .before .check-pair .ensures) (c .before .before .before .enum-told .given .1)
+check-placed-requires : tie.Need-check-placed-requires
+check-placed-requires c κs = search needs
 
 returns : tie.Need-returns
-returns c =
-    let a = c .before .before .before .before .before .before .before .before .before .before .before .before .args in
-    let s = lent (a .board .now) (a .rates .now) (a .owed .now) (a .owed-other .now) in
-    start-refused _ _ _ _ (sym (pair-is _ _ s false _ _ _ (c .before .before .before .before .before .larger .ensures) (c .before .before .before .before .lacks .ensures) (c .before .before .before .check-pair .ensures)) ∙ c .before .r .given .1)
-
-returns-2 : tie.Need-returns-2
-returns-2 c =
-    let a = c .before .before .before .before .before .before .before .before .before .before .before .before .before .before .before .args in
-    let s = lent (a .board .now) (a .rates .now) (a .owed .now) (a .owed-other .now) in
-    let e = pair-is _ _ s false _ _ _ (c .before .before .before .before .before .before .before .before .larger .ensures) (c .before .before .before .before .before .before .before .lacks .ensures) (c .before .before .before .before .before .before .check-pair .ensures) in
-    start-next _ _ _ _ (sym e ∙ c .before .before .before .before .enum-told .given .1) (sym (c .before .before .before .both-start .ensures) ∙ c .before .before .if1 .taken) (c .check-fit .ensures)
-
-returns-3 : tie.Need-returns-3
-returns-3 c =
-    let a = c .before .before .before .before .before .before .before .before .before .before .before .before .before .args in
-    let s = lent (a .board .now) (a .rates .now) (a .owed .now) (a .owed-other .now) in
-    let e = pair-is _ _ s false _ _ _ (c .before .before .before .before .before .before .larger .ensures) (c .before .before .before .before .before .lacks .ensures) (c .before .before .before .before .check-pair .ensures) in
-    start-away _ _ _ (sym e ∙ c .before .before .enum-told .given .1) (sym (c .before .both-start .ensures) ∙ c .if1 .left)
+returns c = c .check-placed .ensures ∙ simp (c .before .both-start .ensures)
 
 pub check-start-spec : {M : Type 1} → statement M
-check-start-spec =
-    tie.close
-    (tie.spec
-    cast-larger
-    cast-larger-2
-    larger-requires
-    lacks-requires
-    check-pair-requires
-    enum-known-r
-    enum-told
-    both-start-requires
-    cast-check-fit
-    check-fit-requires
-    returns
-    returns-2
-    returns-3)
+check-start-spec = tie.close (tie.spec both-start-requires check-placed-requires returns)

@@ -2,7 +2,8 @@
 -- Assumes nothing.
 use borrow.Author.Needs.{needs}
 use mathlib.Core.Path.{sym, _∙_}
-use Rattle.share_boards.proofs.Starts.{saving-rates, saving-plain}
+use Rattle.sheets.specs.Results.{leafForm}
+use Rattle.share_boards.proofs.Starts.{placed-few, placed-rates, saving-first, save-rest, save-writes}
 use Rattle.share_boards.proofs.starting.save.Statement.{statement}
 use Rattle.share_boards.proofs.starting.save.Tie as tie
 
@@ -19,13 +20,13 @@ cast-c : tie.Need-cast-c
 cast-c c = search needs
 
 all-zero-requires : tie.Need-all-zero-requires
-all-zero-requires c κs = saving-rates _ _ _ _ (sym (c .before .before .before .check-save .ensures) ∙ c .before .enum-told .given .1)
+all-zero-requires c κs = placed-rates _ _ _ _ (saving-first leafForm _ _ _ _ (sym (c .before .before .before .check-save .ensures) ∙ c .before .enum-told .given .1))
 
 save-requires : tie.Need-save-requires
 save-requires c κs = search needs
 
 sheet-bytes-requires : tie.Need-sheet-bytes-requires
-sheet-bytes-requires c κs = saving-rates _ _ _ _ (sym (c .before .before .before .before .before .before .before .before .before .check-save .ensures) ∙ c .before .before .before .before .before .before .before .enum-told .given .1) .1
+sheet-bytes-requires c κs = placed-few _ _ _ _ (saving-first leafForm _ _ _ _ (sym (c .before .before .before .before .before .before .before .before .before .check-save .ensures) ∙ c .before .before .before .before .before .before .before .enum-told .given .1))
 
 returns : tie.Need-returns
 returns c =
@@ -40,7 +41,8 @@ returns-2 c =
     let e = sym (c .before .before .before .before .before .before .before .before .before .before .check-save .ensures) ∙ c .before .before .before .before .before .before .before .before .enum-told .given .1 in
     let none = sym (c .before .before .before .before .before .before .all-zero .ensures) ∙ c .before .before .before .before .before .if1 .taken in
     let n = c .sheet-bytes .ensures in
-    (simp (e, none, n), simp (e, none, n), simp (e, none, saving-plain _ _ _ _ e, c .before .before .before .save .ensures .2))
+    let rest = save-rest _ _ _ _ (saving-first leafForm _ _ _ _ e) in
+    (simp (e, none, n), simp (e, none, n), save-writes leafForm _ _ _ (c .before .before .before .before .before .before .before .before .before .before .before .before .before .before .before .before .args .output .now) _ e none rest (c .before .before .before .save .ensures .2))
 
 returns-3 : tie.Need-returns-3
 returns-3 c =
