@@ -251,10 +251,17 @@ mandrozsi_reply mandrozsi_share_report(mandrozsi_drive own, mandrozsi_drive othe
                                        size_t rated, const uint16_t *owed, size_t owing, const uint16_t *owed_other, size_t other_owing,
                                        uint16_t name);
 
-/* Neither form of sheet can hold an over-allocated stream: 17, last, while one is held. Refused: 1 to 5, 11, 17. */
+/* Neither form of sheet can hold an over-allocated stream: 17, last, while one is held. Refused: 1 to 5, 11, 17; 4 of save_pieces where the drives are at
+ * different positions. read_pieces clears the tables as mandrozsi_share_read does. */
 mandrozsi_reply mandrozsi_share_save(mandrozsi_drive own, mandrozsi_drive other, const uint16_t *board, size_t entries, const uint16_t *rates,
                                      size_t rated, const uint16_t *owed, size_t owing, const uint16_t *owed_other, size_t other_owing,
                                      uint8_t *output, size_t length);
+
+mandrozsi_reply mandrozsi_share_save_pieces(mandrozsi_drive own, mandrozsi_drive other, const uint16_t *board, size_t entries, const uint16_t *rates,
+                                            size_t rated, const uint16_t *owed, size_t owing, const uint16_t *owed_other, size_t other_owing,
+                                            uint8_t *output, size_t length);
+mandrozsi_reply mandrozsi_share_read_pieces(const uint8_t *sheet, size_t length, uint16_t *board, size_t entries, uint64_t *list, size_t numbers,
+                                            uint16_t *rates, size_t rated, uint16_t *owed, size_t owing, uint16_t *owed_other, size_t other_owing);
 
 /* Over-allocated streams count with R and keep r and their deficits. */
 mandrozsi_reply mandrozsi_share_fresh(mandrozsi_drive own, mandrozsi_drive other, uint16_t *board, size_t entries, uint16_t *rates, size_t rated,

@@ -23,7 +23,7 @@ enum { PAIR_ADD = 9, PAIR_REMOVE, PAIR_SLOT, PAIR_ROUND, PAIR_REPORT, PAIR_SAVE,
 enum { WALK = 17, FRESH, PAIR_FRESH };
 enum { SAVE_PIECES = 20, READ_PIECES, TO_PIECES, TO_LEAVES, PAIR_SAVE_PIECES, IMPORT };
 enum { SHARE_OPEN = 26, SHARE_READ, SHARE_ADD, SHARE_OVER, SHARE_REMOVE, SHARE_SLOT, SHARE_ROUND, SHARE_REPORT, SHARE_SAVE, SHARE_FRESH };
-enum { SHARE_BATCH = 36, SHARE_SLOT_HERE, SHARE_IMPORT };
+enum { SHARE_BATCH = 36, SHARE_SLOT_HERE, SHARE_IMPORT, SHARE_SAVE_PIECES, SHARE_READ_PIECES };
 
 /* The slices that a call can be lent: OTHER is the output, sheet, marks or table of changes; then come the tables, and what is only read beside an
  * output: a sheet, or the starts and names of a group table. */
@@ -100,6 +100,10 @@ static mandrozsi_reply share(const struct call *c, uint8_t *lent[SLICES])
         return mandrozsi_share_round(own, partner, board, entries, rates, rated, owed, owing, owed_other, other_owing, names, length / 2);
     case SHARE_REPORT: return mandrozsi_share_report(own, partner, board, entries, rates, rated, owed, owing, owed_other, other_owing, c->name);
     case SHARE_SAVE: return mandrozsi_share_save(own, partner, board, entries, rates, rated, owed, owing, owed_other, other_owing, other, length);
+    case SHARE_SAVE_PIECES:
+        return mandrozsi_share_save_pieces(own, partner, board, entries, rates, rated, owed, owing, owed_other, other_owing, other, length);
+    case SHARE_READ_PIECES:
+        return mandrozsi_share_read_pieces(other, length, board, entries, list, numbers, rates, rated, owed, owing, owed_other, other_owing);
     case SHARE_FRESH: return mandrozsi_share_fresh(own, partner, board, entries, rates, rated, owed, owing, owed_other, other_owing);
     case SHARE_BATCH:
         own = mandrozsi_share_batch(own, partner, board, entries, list, numbers, rates, rated, owed, owing, owed_other, other_owing, table,

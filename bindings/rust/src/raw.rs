@@ -193,6 +193,34 @@ extern "C" {
         output: *mut u8,
         length: usize,
     ) -> Reply;
+    pub fn mandrozsi_share_save_pieces(
+        own: Drive,
+        other: Drive,
+        board: *const u16,
+        entries: usize,
+        rates: *const u16,
+        rated: usize,
+        owed: *const u16,
+        owing: usize,
+        owed_other: *const u16,
+        other_owing: usize,
+        output: *mut u8,
+        length: usize,
+    ) -> Reply;
+    pub fn mandrozsi_share_read_pieces(
+        sheet: *const u8,
+        length: usize,
+        board: *mut u16,
+        entries: usize,
+        list: *mut u64,
+        numbers: usize,
+        rates: *mut u16,
+        rated: usize,
+        owed: *mut u16,
+        owing: usize,
+        owed_other: *mut u16,
+        other_owing: usize,
+    ) -> Reply;
     pub fn mandrozsi_share_fresh(
         own: Drive,
         other: Drive,

@@ -250,4 +250,19 @@ impl Shares {
         let reply = lent!(to look at, mandrozsi_share_save(own, other), board, tables.seen(second), start, length);
         Ok(reply.done()?.said.first as usize)
     }
+
+    /// Writes the sheet that lists the board's pieces where both drives are at one position and no stream is over-allocated: the bytes written. Refused:
+    /// 1 to 5, 11, 17.
+    pub fn save_pieces(self, side: Side, board: &[u16], tables: &Tables, output: &mut [u8]) -> Result<usize, Refusal> {
+        let (own, other, second) = self.own(side);
+        let (start, length) = (output.as_mut_ptr(), output.len());
+        let reply = lent!(to look at, mandrozsi_share_save_pieces(own, other), board, tables.seen(second), start, length);
+        Ok(reply.done()?.said.first as usize)
+    }
+
+    /// As [`Shares::read`], of a sheet that lists pieces: both drives are at its position.
+    pub fn read_pieces(sheet: &[u8], board: &mut [u16], list: &mut [u64], tables: &mut Tables) -> Result<Shares, Refusal> {
+        let reply = lent!(with list, mandrozsi_share_read_pieces(sheet.as_ptr(), sheet.len()), board, list, tables.by(false));
+        Ok(Shares::two(reply.done()?.drive))
+    }
 }

@@ -174,7 +174,7 @@ fn functions() {
     let code = code();
     let header = declared(&code, false);
     let rust = declared(include_str!("../src/raw.rs"), true);
-    assert_eq!(header.len(), 39);
+    assert_eq!(header.len(), 41);
     assert_eq!(header, rust);
     let alone: Vec<_> = header.iter().filter(|(back, ..)| *back == "said").map(|(_, name, _)| *name).collect();
     let expected = ["to_pieces", "to_leaves", "fetch", "pair_slot_here", "share_slot_here", "walk"].map(|name| format!("mandrozsi_{name}"));

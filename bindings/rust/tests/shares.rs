@@ -100,6 +100,14 @@ impl Shared for Boundary {
         let (start, length) = (output.as_mut_ptr(), output.len());
         answer(looked!(mandrozsi_share_save(own, other), lent, start, length))
     }
+    fn save_pieces(&self, r: Records, lent: &Lent, output: &mut [u8]) -> Answer {
+        let (own, other) = both(r);
+        let (start, length) = (output.as_mut_ptr(), output.len());
+        answer(looked!(mandrozsi_share_save_pieces(own, other), lent, start, length))
+    }
+    fn read_pieces(&self, sheet: &[u8], lent: &mut Lent) -> Answer {
+        answer(made!(mandrozsi_share_read_pieces(sheet.as_ptr(), sheet.len()), lent))
+    }
     fn fresh(&self, r: Records, lent: &mut Lent) -> Answer {
         let (own, other) = both(r);
         let Lent {
@@ -250,6 +258,19 @@ impl Shared for Safe {
         let (s, side) = shares(r);
         let result = tables(&mut lent.clone(), s, side, |b, _, t| s.save(side, b, t, output));
         told(r.own, result, |bytes| (r.own, [bytes as u64, 0, 0, 0]))
+    }
+    fn save_pieces(&self, r: Records, lent: &Lent, output: &mut [u8]) -> Answer {
+        let (s, side) = shares(r);
+        let result = tables(&mut lent.clone(), s, side, |b, _, t| s.save_pieces(side, b, t, output));
+        told(r.own, result, |bytes| (r.own, [bytes as u64, 0, 0, 0]))
+    }
+    fn read_pieces(&self, sheet: &[u8], lent: &mut Lent) -> Answer {
+        let one = Shares {
+            first: drive(at(0, 0)),
+            second: None,
+        };
+        let result = tables(lent, one, Side::First, |b, l, t| Shares::read_pieces(sheet, b, l, t));
+        told(at(0, 0), result, |s| (record(s.first), [0; 4]))
     }
     fn fresh(&self, r: Records, lent: &mut Lent) -> Answer {
         let (s, side) = shares(r);

@@ -8,10 +8,12 @@ use lib.ListN.{length}
 use Rattle.calls.specs.declared.Drive.{Drive}
 use Rattle.waiting.specs.declared.Order.{Order}
 use Rattle.shares.specs.States.{State, lent}
-use Rattle.share_boards.specs.Keeping.{opened, openedAnswer, openedState, openedList, loaded, loadedAnswer, loadedState, loadedList}
+use Rattle.sheets.specs.Forms.{Form}
+use Rattle.sheets.specs.Results.{leafForm, pieceForm}
+use Rattle.share_boards.specs.Keeping.{opened, openedAnswer, openedState, openedList, loadedAs, loadedAnswerAs, loadedStateAs, loadedListAs}
 use Rattle.shares.specs.Results.{changedAnswer, changedState, changedList}
 use Rattle.share_boards.specs.Looking.{roundedAnswer, roundedOutput, reportedAnswer}
-use Rattle.share_boards.specs.Starting.{savedAnswer, savedOutput, refreshedAnswer, refreshedState}
+use Rattle.share_boards.specs.Starting.{savedAnswer, savedOutput, savedPiecesAnswer, savedPiecesOutput, refreshedAnswer, refreshedState}
 use Rattle.groups.specs.declared.Finding.{Finding}
 use Rattle.groups.specs.Results.{resultBy, answerBy, boardBy, listBy, outputBy, tableBy}
 use Rattle.exports.specs.declared.Reply.{Reply}
@@ -21,9 +23,16 @@ abbrev pub ShareOpens : ℕ → State → List ℕ → Reply → State → List 
 ShareOpens C s L r t F =
     (r ≡ reply (opened C s (length L) .drive) (openedAnswer C s (length L))) × (t ≡ openedState C s (length L)) × (F ≡ openedList C s L)
 
+-- read of a form of sheet, and of the two there are
+abbrev pub ShareLoadsAs : Form → List ℕ → State → List ℕ → Reply → State → List ℕ → Type 0
+ShareLoadsAs form S s L r t F =
+    (r ≡ reply (loadedAs form S s (length L) .drive) (loadedAnswerAs form S s (length L))) × (t ≡ loadedStateAs form S s (length L)) × (F ≡ loadedListAs form S s L)
+
 abbrev pub ShareLoads : List ℕ → State → List ℕ → Reply → State → List ℕ → Type 0
-ShareLoads S s L r t F =
-    (r ≡ reply (loaded S s (length L) .drive) (loadedAnswer S s (length L))) × (t ≡ loadedState S s (length L)) × (F ≡ loadedList S s L)
+ShareLoads = ShareLoadsAs leafForm
+
+abbrev pub ShareLoadsPieces : List ℕ → State → List ℕ → Reply → State → List ℕ → Type 0
+ShareLoadsPieces = ShareLoadsAs pieceForm
 
 abbrev pub ShareOrders : Drive → Drive → State → List ℕ → Order → Reply → State → List ℕ → Type 0
 ShareOrders a b s L o r t F = (r ≡ reply a (changedAnswer a b s L o)) × (t ≡ changedState a b s L o) × (F ≡ changedList a b s L o)
@@ -36,6 +45,9 @@ ShareReports a b s x r = r ≡ reply a (reportedAnswer a b s x)
 
 abbrev pub ShareSaves : Drive → Drive → State → List ℕ → Reply → List ℕ → Type 0
 ShareSaves a b s O r E = (r ≡ reply a (savedAnswer a b s O)) × (E ≡ savedOutput a b s O)
+
+abbrev pub ShareSavesPieces : Drive → Drive → State → List ℕ → Reply → List ℕ → Type 0
+ShareSavesPieces a b s O r E = (r ≡ reply a (savedPiecesAnswer a b s O)) × (E ≡ savedPiecesOutput a b s O)
 
 abbrev pub ShareRefreshes : Drive → Drive → State → Reply → State → Type 0
 ShareRefreshes a b s r t = (r ≡ reply a (refreshedAnswer a b s)) × (t ≡ refreshedState a b s)

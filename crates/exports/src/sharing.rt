@@ -276,3 +276,54 @@ pub extern "C" fn mandrozsi_share_fresh(
         said: said_refreshing(answer),
     }
 }
+
+// Reads a sheet of pieces, at the position that it has, clears the tables, and empties the list.
+#[no_mangle]
+pub extern "C" fn mandrozsi_share_read_pieces(
+    sheet: &[u8],
+    board: &mut [u16],
+    list: &mut [u64],
+    rates: &mut [u16],
+    owed: &mut [u16],
+    owed_other: &mut [u16],
+) -> Reply
+    ensures { λ r. ⌜ promises.ShareLoadsPieces (now (sheet .entry)) (lent (now (board .entry)) (now (rates .entry)) (now (owed .entry)) (now («owed_other» .entry))) (now (list .entry)) r (lent (now (board .exit)) (now (rates .exit)) (now (owed .exit)) (now («owed_other» .exit))) (now (list .exit)) ⌝ }
+{
+    let loaded = share_boards::keeping::read_pieces(sheet, board, list, rates, owed, owed_other);
+    let after = loaded.drive;
+    let answer = loaded.answer;
+    Reply {
+        drive: after,
+        said: said_loading(answer),
+    }
+}
+
+// Saves a board that holds no over-allocated stream by its pieces, where both drives are at one position.
+#[no_mangle]
+pub extern "C" fn mandrozsi_share_save_pieces(
+    own: Drive,
+    other: Drive,
+    board: &[u16],
+    rates: &[u16],
+    owed: &[u16],
+    owed_other: &[u16],
+    output: &mut [u8],
+) -> Reply
+    ensures { λ r. ⌜ promises.ShareSavesPieces own other (lent (now (board .entry)) (now (rates .entry)) (now (owed .entry)) (now («owed_other» .entry))) (now (output .entry)) r (now (output .exit)) ⌝ }
+{
+    let saved = share_boards::starting::save_pieces(
+        own,
+        other,
+        board,
+        rates,
+        owed,
+        owed_other,
+        output,
+    );
+    let after = saved.drive;
+    let answer = saved.answer;
+    Reply {
+        drive: after,
+        said: said_share_saving(answer),
+    }
+}

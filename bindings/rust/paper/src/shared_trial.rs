@@ -1,6 +1,7 @@
 //! Comparison of any version of the calls with tables with [`shares`](crate::shares): the answer, the record and every entry of every lent slice, on random
 //! histories of two drives with over-allocated streams.
 use crate::batch::Entry;
+use crate::piece_sheets::piece_sheet;
 use crate::random::Random;
 use crate::shares::{Lent, Shared};
 use crate::trial::{mend_sums, some_capacity, some_list, some_name, some_number, some_record, some_table, Letter, Tally};
@@ -16,9 +17,11 @@ const SAVE: usize = 5;
 const READ: usize = 6;
 const BATCH: usize = 7;
 const FRESH: usize = 8;
+const SAVE_PIECES: usize = 9;
+const READ_PIECES: usize = 10;
 
 /// What each call may answer.
-const MAY: [(&str, &[usize]); 9] = [
+const MAY: [(&str, &[usize]); 11] = [
     ("open with tables", &[0, 1, 2]),
     ("a change with tables", &[0, 1, 2, 3, 5, 6, 7, 8, 9, 10, 13, 14]),
     ("slot with tables", &[0, 1, 2, 3, 5]),
@@ -28,6 +31,8 @@ const MAY: [(&str, &[usize]); 9] = [
     ("read with tables", &[0, 1, 2, 5, 12]),
     ("batch with tables", &[0, 1, 2, 3, 5, 6, 7, 8, 9, 10, 13, 14]),
     ("fresh with tables", &[0, 1, 2, 3, 4, 5]),
+    ("save of pieces with tables", &[0, 1, 2, 3, 4, 5, 11, 17]),
+    ("read of pieces with tables", &[0, 1, 2, 5, 12]),
 ];
 
 fn over_order(name: u16, weight: u16) -> Order {
@@ -57,7 +62,7 @@ impl Site {
 /// One version beside the paper's letter, and what was answered.
 struct Trial<'a, S: Shared> {
     calls: &'a S,
-    tally: Tally<9>,
+    tally: Tally<11>,
 }
 
 impl<S: Shared> Trial<'_, S> {
@@ -120,6 +125,18 @@ impl<S: Shared> Trial<'_, S> {
             (calls.save(r, lent, &mut output), output)
         });
         self.tally.count(SAVE, answer.number);
+    }
+
+    fn save_pieces(&mut self, r: Records, lent: &Lent, output: usize) {
+        let (answer, _) = self.same(SAVE_PIECES, &(r, output), &mut lent.clone(), |calls, lent| {
+            let mut output = vec![1; output];
+            (calls.save_pieces(r, lent, &mut output), output)
+        });
+        self.tally.count(SAVE_PIECES, answer.number);
+    }
+
+    fn read_pieces(&mut self, sheet: &[u8], lent: &mut Lent) {
+        self.answered(READ_PIECES, &sheet, lent, |calls, lent| calls.read_pieces(sheet, lent));
     }
 
     fn read(&mut self, sheet: &[u8], lent: &mut Lent) {
@@ -206,6 +223,7 @@ impl<S: Shared> Trial<'_, S> {
                 self.round(records, &site.lent, (c + 2).saturating_sub(random.below(4)));
                 self.report(records, &site.lent, name);
                 self.save(records, &site.lent, c.div_ceil(253) * 512 - random.below(2));
+                self.save_pieces(records, &site.lent, 512 * random.below(9));
                 self.sheets(random, &site.lent, c);
             }
             9 => {
@@ -221,21 +239,37 @@ impl<S: Shared> Trial<'_, S> {
         }
     }
 
-    /// Reads a sheet of the board, sound or with a byte changed, into lent memory that may be too short; on copies.
+    /// Reads sheets of the board in both forms, sound or with a leaf or a byte changed, into lent memory that may be too short; on copies.
     fn sheets(&mut self, random: &mut Random, lent: &Lent, c: usize) {
-        let mut sheet = letter::sheet(&lent.board[..c]);
-        if random.one_in(2) {
-            let at = random.below(sheet.len());
-            sheet[at] ^= 1 << random.below(8);
-            mend_sums(&mut sheet);
+        let position = 1 + random.below(c) as u16;
+        let mut leaves = lent.board[..c].to_vec();
+        if random.one_in(4) {
+            let (from, to) = (random.below(c), random.below(c));
+            leaves[to] = leaves[from];
         }
-        match random.below(8) {
-            0 => sheet.truncate(random.below(sheet.len())),
-            1 => sheet[2..4].copy_from_slice(&some_number(random).to_le_bytes()),
-            _ => {}
+        for pieces in [false, true] {
+            let mut sheet = if pieces {
+                piece_sheet(&leaves, position)
+            } else {
+                letter::sheet(&leaves)
+            };
+            if random.one_in(2) {
+                let at = random.below(sheet.len());
+                sheet[at] ^= 1 << random.below(8);
+                mend_sums(&mut sheet);
+            }
+            match random.below(8) {
+                0 => sheet.truncate(random.below(sheet.len())),
+                1 => sheet[2..4].copy_from_slice(&some_number(random).to_le_bytes()),
+                _ => {}
+            }
+            let mut lent = cut(random, lent, c);
+            if pieces {
+                self.read_pieces(&sheet, &mut lent);
+            } else {
+                self.read(&sheet, &mut lent);
+            }
         }
-        let mut lent = cut(random, lent, c);
-        self.read(&sheet, &mut lent);
     }
 
     /// Every call with records or lengths that are wrong, on copies.
@@ -280,6 +314,7 @@ impl<S: Shared> Trial<'_, S> {
         self.round(records, lent, random.below(2 * lent.board.len() + 1));
         self.report(records, lent, name);
         self.save(records, lent, 512 * random.below(4));
+        self.save_pieces(records, lent, 512 * random.below(4));
         self.fresh(records, &mut lent.clone());
         let table = shared_table(random, names);
         self.batch(records, &mut lent.clone(), &table);

@@ -2,6 +2,7 @@
 //! calls of [`letter`] that are made at once. A single drive has its record in both places.
 use crate::batch::Entry;
 use crate::letter::{self, Piece};
+use crate::piece_sheets::{piece_sheet, PieceSheets};
 use crate::trial::Letter;
 use crate::waiting::{self, Order, LENGTH};
 use crate::{at, drives, Answer, Record, Records};
@@ -38,6 +39,8 @@ pub trait Shared {
     fn round(&self, records: Records, lent: &Lent, output: &mut [u16]) -> Answer;
     fn report(&self, records: Records, lent: &Lent, name: u16) -> Answer;
     fn save(&self, records: Records, lent: &Lent, output: &mut [u8]) -> Answer;
+    fn save_pieces(&self, records: Records, lent: &Lent, output: &mut [u8]) -> Answer;
+    fn read_pieces(&self, sheet: &[u8], lent: &mut Lent) -> Answer;
     fn fresh(&self, records: Records, lent: &mut Lent) -> Answer;
     fn batch(&self, records: Records, lent: &mut Lent, table: &mut [Entry]) -> Record;
 }
@@ -298,6 +301,37 @@ impl Shared for Letter {
             Some(number) => Answer::refused(records.own, number),
             None => letter::save(records.own, &lent.board, output),
         }
+    }
+
+    /// Document 02, No. 9: "4 .. of the new sheet if their positions differ"; "over-allocated streams cannot be put in either form"; "17 as before".
+    fn save_pieces(&self, records: Records, lent: &Lent, output: &mut [u8]) -> Answer {
+        let c = usize::from(records.own.capacity);
+        let apart = || {
+            records
+                .other
+                .is_some_and(|other| other.position != records.own.position)
+                .then_some(MIDROUND)
+        };
+        let early = refused(records, lent, false).or_else(apart).or_else(|| damaged(records, lent));
+        let kind = || lent.rates[..c].iter().any(|&r| r > 0).then_some(KIND);
+        let short = || (output.len() < piece_sheet(&lent.board[..c], records.own.position).len()).then_some(OUTPUT);
+        match early.or_else(short).or_else(kind) {
+            Some(number) => Answer::refused(records.own, number),
+            None => PieceSheets::save_pieces(self, records, &lent.board, output),
+        }
+    }
+
+    fn read_pieces(&self, sheet: &[u8], lent: &mut Lent) -> Answer {
+        let c = if sheet.len() < 4 { 0 } else { u16::from_le_bytes([sheet[2], sheet[3]]) };
+        if lent.short(c) {
+            let early = PieceSheets::read_pieces(self, sheet, &mut [], &mut [0; LENGTH]);
+            return if early.number == 0 { Answer::refused(at(0, 0), SHORT) } else { early };
+        }
+        let answer = PieceSheets::read_pieces(self, sheet, &mut lent.board, &mut lent.list);
+        if answer.number == 0 {
+            lent.cleared(c);
+        }
+        answer
     }
 
     /// Document 02, No. 12: "over-allocated streams count with R and keep their deficits".

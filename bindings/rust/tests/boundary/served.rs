@@ -693,3 +693,49 @@ unsafe extern "C" fn mandrozsi_share_import(
     let (starts, names) = (Lent::shared(starts, given), Lent::shared(names, streams));
     ask_all(38, one(asked), 0, 0, [board, list, output, rates, owed, other, starts, names])
 }
+#[no_mangle]
+unsafe extern "C" fn mandrozsi_share_save_pieces(
+    own: Drive,
+    other: Drive,
+    board: *const u16,
+    entries: usize,
+    rates: *const u16,
+    rated: usize,
+    owed: *const u16,
+    owing: usize,
+    owed_other: *const u16,
+    other_owing: usize,
+    output: *mut u8,
+    length: usize,
+) -> Reply {
+    let (board, output) = (Lent::shared(board, entries), Lent::changed(output, length));
+    let (rates, owed, owed_other) = (
+        Lent::shared(rates, rated),
+        Lent::shared(owed, owing),
+        Lent::shared(owed_other, other_owing),
+    );
+    ask_all(39, [own, other], 0, 0, [board, NONE, output, rates, owed, owed_other, NONE, NONE])
+}
+#[no_mangle]
+unsafe extern "C" fn mandrozsi_share_read_pieces(
+    sheet: *const u8,
+    length: usize,
+    board: *mut u16,
+    entries: usize,
+    list: *mut u64,
+    numbers: usize,
+    rates: *mut u16,
+    rated: usize,
+    owed: *mut u16,
+    owing: usize,
+    owed_other: *mut u16,
+    other_owing: usize,
+) -> Reply {
+    let (board, list, sheet) = (Lent::changed(board, entries), Lent::changed(list, numbers), Lent::shared(sheet, length));
+    let (rates, owed, owed_other) = (
+        Lent::changed(rates, rated),
+        Lent::changed(owed, owing),
+        Lent::changed(owed_other, other_owing),
+    );
+    ask_all(40, one(Drive::default()), 0, 0, [board, list, sheet, rates, owed, owed_other, NONE, NONE])
+}
