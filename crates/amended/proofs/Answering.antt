@@ -1,6 +1,6 @@
 -- What the calls with the list answer: only the numbers of their lists; refused, nothing is changed.
 -- Assumes nothing.
-use mathlib.Core.Path.{_≡_, refl, sym, ap, subst, _∙_}
+use mathlib.Core.Path.{_≡_, refl, subst}
 use mathlib.Core.Bool.{Bool, true, false, cond, not}
 use mathlib.Core.List.{List, [], _∷_, _++_}
 use mathlib.Core.Logic.{⊎-elim}
@@ -9,18 +9,19 @@ use native.Mathlib.Omega.{arith}
 use lib.Dec.{eqb, ltb}
 use lib.ListN.{length, drop}
 use borrow.Author.Tests.{eq-eqb, eqb-false}
+use Rattle.general.proofs.Laws.{clash, by-bool}
 use Rattle.pieces.specs.Board.{good, weight, number}
 use Rattle.pieces.specs.Fresh.{fresh}
 use Rattle.calls.specs.declared.Drive.{Drive}
 use Rattle.calls.specs.declared.Refusal.{Refusal}
-use Rattle.calls.specs.declared.Refusal.the-variants.{Capacity, Short, Position, Midround, Damaged, Name, Weight, Taken, Absent, Room, Output, Block}
+use Rattle.calls.specs.declared.Refusal.the-variants.{Short, Position, Damaged, Name, Weight, Taken, Absent, Room, Block}
 use Rattle.calls.specs.declared.Check.{Check}
 use Rattle.calls.specs.declared.Check.the-variants.{Clear, Refused}
 use Rattle.calls.specs.Refusals.{numbers, numberOf, firstOf, refuseIf, andThen, zeroOr, among, askedOpen, asked, askedAdd, askedName, openMay, changeMay, slotMay, openCheck, slotCheck, positionCheck, goodCheck, heldCheck, changeCheck, admitCheck, addCheck, removeCheck, roundCheck, reportCheck}
 use Rattle.calls.specs.Records.{driveAt}
 use Rattle.calls.specs.Answers.{numberBy, answered, beside}
 use Rattle.calls.specs.Results.{ifClear, roundNames, reportedSpacing}
-use Rattle.calls.proofs.Laws.{by-bool, refusal, Within, covers, first-next, first-within, then-within, if-within, part-within, other-number, change-parts, add-parts, remove-parts, round-answers, report-answers, fresh-answers}
+use Rattle.calls.proofs.Laws.{refusal, Within, covers, first-next, first-within, then-within, if-within, part-within, other-number, change-parts, add-parts, remove-parts, round-answers, report-answers, fresh-answers}
 use Rattle.sheets.specs.Sheet.{capacityIn}
 use Rattle.sheets.specs.Forms.{Form, sizeOf, savingCheck, askedSheet, blockCheck, startCheck}
 use Rattle.sheets.specs.Results.{savePiecesMay}
@@ -36,9 +37,6 @@ use Rattle.orders.proofs.Laws.{now-start}
 use Rattle.amended.specs.Deeds.{Sheets, Leaves, Pieces, formOf, Deed, Opens, Reads, Adds, Removes, Slots, Rounds, Reports, Saves, Fetches, Refreshes, Desk, openChecks, readChecks, firstChecks, wayAt, answers}
 use Rattle.amended.specs.Refusing as refusing
 use Rattle.amended.specs.Refusing.{RefusedBy, mayAnswer, isDone, zeros, idleLeaves}
-
-pub clash : {P : Type 0} {b : Bool} → b ≡ true → b ≡ false → P
-clash t f = let z : _≡_ {A = ℕ} 0 1 = cc in absurd (omega arith)
 
 -- ---- the checks keep to their lists
 

@@ -1,10 +1,9 @@
 -- A table of changes is its single calls: a history with tables is one of single calls, and every theorem of `TwoDemands` speaks of it.
 -- Assumes nothing.
-use mathlib.Core.Path.{_≡_, refl, _∙_}
-use mathlib.Core.Bool.{true, false}
+use mathlib.Core.Path.{_≡_, refl}
 use mathlib.Core.List.{List, [], _∷_}
 use lib.Dec.{eqb}
-use Rattle.calls.proofs.Laws.{by-bool}
+use Rattle.general.proofs.Laws.{by-bool}
 use Rattle.batch.specs.declared.Entry.{Entry}
 use Rattle.batch.specs.Entries.{ordered, orderedBoard, orderedList, carried, batchOf}
 use Rattle.amended.specs.Histories.{through}

@@ -1,11 +1,11 @@
 -- Orders that are carried out are plain calls: they lead where these lead, are answered what these say, and serve no slot.
 -- Assumes nothing.
 use mathlib.Core.Path.{_≡_, refl, ap, _∙_}
-use mathlib.Core.List.{List, [], _∷_, _++_}
+use mathlib.Core.List.{List, [], _∷_}
 use Prim.Native.Nat.{ℕ}
 use lib.Dec.{eqb}
+use Rattle.general.proofs.Laws.{by-bool}
 use Rattle.calls.specs.declared.Drive.{Drive}
-use Rattle.calls.proofs.Laws.{by-bool}
 use Rattle.demands.specs.Histories.{Add, Remove, State, says, after, log}
 use Rattle.demands.specs.Rounds.{names}
 use Rattle.demands.proofs.Laws.{stateAt, after-append, names-append}

@@ -8,13 +8,14 @@ use native.Mathlib.Omega.{arith}
 use lib.Dec.{eqb}
 use lib.ListN.{length}
 use borrow.Author.Tests.{eq-eqb}
+use Rattle.general.proofs.Laws.{clash, by-bool}
 use Rattle.pieces.specs.Board.{good}
 use Rattle.calls.specs.declared.Refusal.the-variants.{Damaged, Name, Weight}
 use Rattle.calls.specs.declared.Check.{Check}
 use Rattle.calls.specs.declared.Check.the-variants.{Clear, Refused}
 use Rattle.calls.specs.Refusals.{Asked, numberOf, applies, firstOf, refuseIf, zeroOr, askedOutput}
 use Rattle.calls.specs.Answers.{Answer, numberBy}
-use Rattle.calls.proofs.Laws.{by-bool, Within, covers, if-within, part-within, other-number, number-tells, ascending, first-lowest}
+use Rattle.calls.proofs.Laws.{Within, covers, if-within, part-within, other-number, number-tells, ascending, first-lowest}
 use Rattle.sheets.specs.Forms.{sizeOf, savingCheck}
 use Rattle.sheets.proofs.Laws.{save-ascending, save-pieces-ascending}
 use Rattle.demands.specs.Histories.{Add, Remove, Round, Report, Fresh, State}
@@ -32,7 +33,7 @@ use Rattle.amended.specs.Refusing.{ofBoard}
 use Rattle.amended.proofs.Carrying.{add-says, remove-says}
 use Rattle.amended.proofs.Sounding.{Standing}
 use Rattle.amended.proofs.Rounding.{slot-served}
-use Rattle.amended.proofs.Answering.{clash, TakenBy, lent-within, bounds-within, way-within}
+use Rattle.amended.proofs.Answering.{TakenBy, lent-within, bounds-within, way-within}
 
 -- 5 is not of the list
 pub not-five : (ns : List ℕ) (n : ℕ) → zeroOr n ns ≡ true → zeroOr 5 ns ≡ false → n ≡ 5 → ⊥

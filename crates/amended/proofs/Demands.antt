@@ -1,8 +1,8 @@
 -- The demands as request No. 2 amends them, each by its name. Demand 1, tickets and what becomes of an order hold for every call and every input; demand 3, and request
 -- No. 13, for every history of calls with the waiting list, refused or not, opens and reads among them, from any desk with a good board.
 -- Assumes nothing.
-use mathlib.Core.Path.{_≡_, refl, sym, subst, _∙_}
-use mathlib.Core.Bool.{true, false, cond}
+use mathlib.Core.Path.{_≡_, refl, sym, _∙_}
+use mathlib.Core.Bool.{true, cond}
 use mathlib.Core.List.{List, [], _∷_}
 use Prim.Native.Nat.{ℕ, zero, _+_, _-_, _*_, _≤_, _<_}
 use native.Mathlib.Omega.{arith}

@@ -8,12 +8,12 @@ use Prim.Native.Nat.{ℕ, zero, _+_, _-_, _*_, _≤_, _<_}
 use native.Mathlib.Omega.{arith}
 use lib.Count.{ones}
 use lib.Dec.{eqb, ltb}
+use Rattle.general.proofs.Laws.{by-bool}
 use Rattle.pieces.specs.Board.{weight, number}
 use Rattle.pieces.proofs.Laws.{pieces-ones}
 use Rattle.calls.specs.declared.Check.the-variants.{Clear}
 use Rattle.calls.specs.Refusals.{firstOf, askedAdd}
 use Rattle.calls.specs.Results.{slotNames, roundNames}
-use Rattle.calls.proofs.Laws.{by-bool}
 use Rattle.demands.specs.Histories.{Act, Add, Remove, State, after, log}
 use Rattle.demands.specs.Refusing.{otherChecks}
 use Rattle.demands.specs.Holdings.{Stream, heldFrom, heldOf, total}

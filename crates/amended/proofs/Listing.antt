@@ -1,6 +1,6 @@
 -- What calls do to the list: it stays in order, its tickets count up, and one order is followed from the call that took it to the fetch of its answer.
 -- Assumes nothing.
-use mathlib.Core.Path.{_≡_, refl, sym, ap, subst, _∙_}
+use mathlib.Core.Path.{_≡_, refl, sym, ap, _∙_}
 use mathlib.Core.Bool.{Bool, true, false, cond, _&&_}
 use mathlib.Core.List.{List, [], _∷_, _++_}
 use Prim.Native.Nat.{ℕ, suc, zero, _+_, _≤_, _<_}
@@ -8,18 +8,18 @@ use native.Mathlib.Omega.{arith}
 use lib.Dec.{eqb}
 use lib.ListN.{length, getD}
 use borrow.Author.Tests.{eq-eqb}
+use Rattle.general.proofs.Laws.{clash, by-bool}
 use Rattle.calls.specs.declared.Drive.{Drive}
-use Rattle.calls.specs.declared.Refusal.{Refusal}
 use Rattle.calls.specs.declared.Check.{Check}
 use Rattle.calls.specs.declared.Check.the-variants.{Clear, Refused}
 use Rattle.calls.specs.Refusals.{numberOf, zeroOr, addCheck, removeCheck}
 use Rattle.calls.specs.Answers.{Answer, numberBy}
 use Rattle.calls.specs.Results.{ifClear}
-use Rattle.calls.proofs.Laws.{by-bool, other-number}
+use Rattle.calls.proofs.Laws.{other-number}
 use Rattle.waiting.specs.declared.Order.{Order}
 use Rattle.waiting.specs.declared.Outcome.{Outcome}
-use Rattle.waiting.specs.Layout.{lastTicket, waiting, full, takenList, answerOf, settled, emptied}
-use Rattle.waiting.specs.Carrying.{carriedAll, outcomes}
+use Rattle.waiting.specs.Layout.{lastTicket, waiting, full, takenList, answerOf, emptied}
+use Rattle.waiting.specs.Carrying.{carriedAll}
 use Rattle.waiting.specs.Meaning.{InOrder, Fits}
 use Rattle.waiting.specs.Fates as list
 use Rattle.waiting.proofs.Laws.{take-last, run-last, fetch-last, empty-last, empty-in-order, take-in-order, run-in-order, fetch-in-order, Stands, stands-taken, stands-take, stands-run, stands-fetch, stands-empty, stands-told}
@@ -28,13 +28,13 @@ use Rattle.orders.specs.declared.Way.the-variants as way
 use Rattle.orders.specs.Answers.{fetchingAnswer}
 use Rattle.orders.specs.Results.{addOrder, removeOrder, carriedAnswer, doing, saying, listBy, takenAnswer, changedAnswerBy, ranList, listIf, listThen}
 use Rattle.orders.proofs.Laws.{kept-says}
-use Rattle.amended.specs.Histories.{through, along, following}
+use Rattle.amended.specs.Histories.{along}
 use Rattle.amended.specs.Carried.{inTurn}
-use Rattle.amended.specs.Deeds.{Deed, Opens, Reads, Adds, Removes, Slots, Rounds, Reports, Saves, Fetches, Refreshes, Desk, openChecks, readChecks, firstChecks, wayAt, answers, leaves, leavesAll, listAfter, isClear, runs, ticketIn, ticketTold, ticketsTold, CountUp}
+use Rattle.amended.specs.Deeds.{Deed, Opens, Reads, Adds, Removes, Slots, Rounds, Reports, Saves, Fetches, Refreshes, Desk, openChecks, readChecks, firstChecks, wayAt, answers, leaves, leavesAll, listAfter, isClear, ticketIn, ticketTold, ticketsTold, CountUp}
 use Rattle.amended.specs.Fates.{Fate, Waits, Answered, Gone, toldOf, ran, handedOut, fateNext, fateThrough}
 use Rattle.amended.proofs.Carrying.{turn-says}
 use Rattle.amended.proofs.Sounding.{list-length}
-use Rattle.amended.proofs.Answering.{clash, TakenBy, firsts, removeFirsts, add-taken, remove-taken, add-within, remove-within}
+use Rattle.amended.proofs.Answering.{TakenBy, firsts, removeFirsts, add-taken, remove-taken, add-within, remove-within}
 use Rattle.amended.proofs.Projecting as projecting
 
 -- ---- the list stays in order

@@ -2,21 +2,20 @@
 -- stands for; and what its calls answer at once is what the plain calls say.
 -- Assumes nothing.
 use mathlib.Core.Path.{_≡_, refl, sym, ap, _∙_}
-use mathlib.Core.Bool.{Bool, true, false, cond}
-use mathlib.Core.List.{List, [], _∷_, _++_}
+use mathlib.Core.Bool.{true, false, cond}
+use mathlib.Core.List.{List, [], _∷_}
 use Prim.Native.Nat.{ℕ}
 use native.Mathlib.Omega.{arith}
 use lib.Dec.{eqb}
 use lib.ListN.{length, getD}
-use Rattle.calls.specs.declared.Drive.{Drive}
+use Rattle.general.proofs.Laws.{by-bool}
 use Rattle.calls.specs.declared.Refusal.{Refusal}
 use Rattle.calls.specs.declared.Check.{Check}
 use Rattle.calls.specs.declared.Check.the-variants.{Clear, Refused}
-use Rattle.calls.specs.Refusals.{slotCheck}
-use Rattle.calls.specs.Answers.{Answer, answered}
+use Rattle.calls.specs.Answers.{answered}
 use Rattle.calls.specs.Results.{ifClear, movedOn, servedName, servedLeaf, servedPassed, servedRound}
-use Rattle.calls.proofs.Laws.{by-bool, number-some}
-use Rattle.demands.specs.Histories.{Act, Add, Slot, State, does, says, after, log}
+use Rattle.calls.proofs.Laws.{number-some}
+use Rattle.demands.specs.Histories.{Add, Slot, State, does, says, after, log}
 use Rattle.demands.specs.Rounds.{names}
 use Rattle.demands.proofs.Laws.{stateAt, after-append, names-append}
 use Rattle.waiting.specs.declared.Order.{Order}
@@ -25,8 +24,8 @@ use Rattle.orders.specs.declared.Way.{Way}
 use Rattle.orders.specs.declared.Way.the-variants as way
 use Rattle.orders.specs.Results.{addOrder, removeOrder, carriedBoard, ranBoard, boardBy, boardThen}
 use Rattle.orders.proofs.Laws.{then-slot}
-use Rattle.amended.specs.Carried.{actOf, actsOf}
-use Rattle.amended.specs.Deeds.{Deed, Opens, Reads, Adds, Removes, Slots, Rounds, Reports, Saves, Fetches, Refreshes, Desk, openChecks, readChecks, firstChecks, wayAt, answers, leaves, leavesAll, isClear, restarts, Unbroken, due, madeBy, servedBy, standsFor, plain, nameServed, namesServed}
+use Rattle.amended.specs.Carried.{actsOf}
+use Rattle.amended.specs.Deeds.{Deed, Opens, Reads, Adds, Removes, Slots, Rounds, Reports, Saves, Fetches, Refreshes, Desk, openChecks, readChecks, firstChecks, wayAt, answers, leaves, leavesAll, isClear, restarts, Unbroken, due, madeBy, servedBy, standsFor, plain, nameServed}
 use Rattle.amended.proofs.Carrying.{carry-one, carry-all, act-names, acts-names, add-says}
 use Rattle.amended.proofs.Projecting as projecting
 
@@ -118,16 +117,8 @@ names-one (Saves form O) s e = refl
 names-one (Fetches t) s e = refl
 names-one Refreshes s e = refl
 
--- The names that the slots of calls with the list serve are those that the plain calls serve.
-pub names-same : (s : Desk) (rest : List Deed) → Unbroken s rest → namesServed s rest ≡ names (log (s .state) (plain s rest))
-names-same = projecting.names-projected leaves (λ s. s .state) standsFor (λ a s. restarts a s ≡ false) projected-one nameServed names-one
-
 -- ---- the answers
 
 -- a change that is made at once is answered what the plain call says
 pub add-made : (s : Desk) (x w : ℕ) → wayAt (addOrder x w) s ≡ way.Now → answers (Adds x w) s ≡ says (Add x w) (s .state)
 add-made s x w e = rw e (add-says (s .state) x w)
-
--- a slot that is not refused says what the plain slot says once the list has run
-pub slot-says : (s : Desk) → firstChecks s ≡ Clear → answers Slots s ≡ says Slot (ranState s)
-slot-says s e = rw (e, then-slot (s .state .drive) (s .state .board) (s .list) (length (s .list)) e) refl

@@ -1,20 +1,20 @@
 -- Full rounds of calls with the list: C slots make one, and it serves what a plain round serves on the board that the list has left.
 -- Assumes nothing.
-use mathlib.Core.Path.{_≡_, refl, sym, ap, ap₂, subst, _∙_}
-use mathlib.Core.Bool.{true, false}
+use mathlib.Core.Path.{_≡_, refl, sym, ap, subst, _∙_}
+use mathlib.Core.Bool.{false}
 use mathlib.Core.List.{List, [], _∷_, _++_}
-use Prim.Native.Nat.{ℕ, suc, _+_, _-_, _≤_, _<_}
+use Prim.Native.Nat.{ℕ, suc, _-_}
 use native.Mathlib.Omega.{arith}
 use lib.ListN.{length, replicate}
 use Rattle.calls.specs.declared.Check.{Check}
-use Rattle.calls.specs.declared.Check.the-variants.{Clear, Refused}
-use Rattle.demands.specs.Histories.{Act, Slot, State, after}
+use Rattle.calls.specs.declared.Check.the-variants.{Clear}
+use Rattle.demands.specs.Histories.{Act, Slot, State}
 use Rattle.demands.specs.Holdings.{Stream}
 use Rattle.demands.specs.Rounds.{namesFrom}
 use Rattle.demands.specs.Rounds as rounds
-use Rattle.demands.proofs.Laws.{stateAt, Sound, reached, slot-clear, after-append}
+use Rattle.demands.proofs.Laws.{Sound, reached, slot-clear}
 use Rattle.orders.proofs.Laws.{bounds-clear}
-use Rattle.amended.specs.Histories.{through, Each}
+use Rattle.amended.specs.Histories.{Each}
 use Rattle.amended.specs.Carried.{actsOf}
 use Rattle.amended.specs.Deeds.{Deed, Slots, Desk, firstChecks, answers, leaves, restarts, Unbroken, due, servedBy, standsFor, plain, nameServed, namesServed, FullRound}
 use Rattle.amended.specs.Holding.{heldNext, heldThen}

@@ -2,18 +2,18 @@
 -- alike; and it stands on the board, whatever calls are made. Shown for a call of the own drive; for the other's the records are exchanged.
 -- Assumes nothing.
 use mathlib.Core.Path.{_≡_, refl, sym, ap, subst, _∙_}
-use mathlib.Core.Bool.{Bool, true, false, cond}
+use mathlib.Core.Bool.{true, false, cond}
 use mathlib.Core.List.{List, [], _∷_}
 use Prim.Native.Nat.{ℕ, _≤_}
 use native.Mathlib.Omega.{arith}
 use lib.Dec.{eqb}
 use lib.ListN.{length}
+use Rattle.general.proofs.Laws.{by-bool}
 use Rattle.pieces.specs.Board.{good}
 use Rattle.calls.specs.declared.Drive.{Drive}
 use Rattle.calls.specs.declared.Check.{Check}
 use Rattle.calls.specs.declared.Check.the-variants.{Clear, Refused}
 use Rattle.calls.specs.Results.{ifClear}
-use Rattle.calls.proofs.Laws.{by-bool}
 use Rattle.calls.specs.Answers.{Answer}
 use Rattle.demands.specs.Histories.{Act, Add, Remove, Slot, Round, Report, Fresh, State, says, after, log}
 use Rattle.demands.specs.Holdings.{Stream, changed, heldFrom}

@@ -1,28 +1,28 @@
 -- What is held stands on the board, whatever calls are made: after any calls, opens and reads among them, the board is good and has on it what is held.
 -- Assumes nothing.
-use mathlib.Core.Path.{_≡_, refl, sym, ap, subst, _∙_}
-use mathlib.Core.Bool.{Bool, true, false, cond}
-use mathlib.Core.List.{List, [], _∷_, _++_}
-use Prim.Native.Nat.{ℕ, zero, suc, _+_, _≤_, _<_}
+use mathlib.Core.Path.{_≡_, refl, sym, subst, _∙_}
+use mathlib.Core.Bool.{Bool, true, false}
+use mathlib.Core.List.{List, _++_}
+use Prim.Native.Nat.{ℕ, zero, suc, _+_, _≤_}
 use native.Mathlib.Omega.{arith}
 use lib.Dec.{eqb}
 use lib.ListN.{length, getD, drop}
-use borrow.Author.Tests.{eq-eqb, ne-eqb, eqb-true, eqb-false}
+use borrow.Author.Tests.{ne-eqb, eqb-true}
+use Rattle.general.proofs.Laws.{by-bool}
 use Rattle.sequences.proofs.Laws.{first-position}
-use Rattle.pieces.specs.Board.{good, weight}
+use Rattle.pieces.specs.Board.{weight}
 use Rattle.calls.specs.declared.Drive.{Drive}
-use Rattle.calls.specs.declared.Refusal.{Refusal}
 use Rattle.calls.specs.declared.Check.{Check}
 use Rattle.calls.specs.declared.Check.the-variants.{Clear, Refused}
 use Rattle.calls.specs.Records.{driveAt}
 use Rattle.calls.specs.Results.{ifClear, idleBoard}
 use Rattle.calls.specs.Refusals.{slotCheck}
-use Rattle.calls.proofs.Laws.{by-bool, Sized, open-clear, open-sized, slot-parts}
-use Rattle.sheets.specs.Sheet.{capacityIn, leavesIn}
+use Rattle.calls.proofs.Laws.{Sized, open-clear, open-sized, slot-parts}
+use Rattle.sheets.specs.Sheet.{capacityIn, sheetLeaves}
 use Rattle.sheets.specs.Results as sheets
 use Rattle.sheets.specs.Entries.{positionIn, spelled}
 use Rattle.sheets.proofs.Laws.{read-sized, read-good, read-pieces-sized, read-pieces-good, read-pieces-position}
-use Rattle.demands.specs.Histories.{State, after, log}
+use Rattle.demands.specs.Histories.{State, log}
 use Rattle.demands.specs.Holdings.{Stream, heldFrom, heldOf, total}
 use Rattle.demands.proofs.Laws.{stateAt, Sound, opened, reached, slot-clear, clear-valid}
 use Rattle.waiting.specs.declared.Order.{Order}
@@ -122,7 +122,7 @@ read-ready : (s : Desk) (form : Sheets) (S : List ℕ) → 259 ≤ length (s .li
 read-ready s Leaves S l e =
     let a = read-accepts S (s .state .board) (s .list) e .1 in
     record {
-      clear = rw e (slot-first (capacityIn S) (leavesIn (capacityIn S) S ++ drop (capacityIn S) (s .state .board)) (read-sized S (s .state .board) a));
+      clear = rw e (slot-first (capacityIn S) (sheetLeaves (capacityIn S) S ++ drop (capacityIn S) (s .state .board)) (read-sized S (s .state .board) a));
       fine = rw e (read-good S (s .state .board) a);
       long = let n = list-length (Reads Leaves S) s in omega arith;
     }

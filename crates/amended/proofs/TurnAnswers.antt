@@ -8,12 +8,13 @@ use Prim.Native.Nat.{ℕ}
 use native.Mathlib.Omega.{arith}
 use lib.Dec.{eqb}
 use lib.ListN.{length, drop}
+use Rattle.general.proofs.Laws.{clash, by-bool}
 use Rattle.pieces.specs.Board.{weight, number}
 use Rattle.pieces.specs.Fresh.{fresh}
 use Rattle.calls.specs.Refusals.{zeroOr, among, firstOf, askedOutput}
 use Rattle.calls.specs.Answers.{numberBy}
 use Rattle.calls.specs.Results.{roundNames, reportedSpacing}
-use Rattle.calls.proofs.Laws.{by-bool, Within, covers, part-within}
+use Rattle.calls.proofs.Laws.{Within, covers, part-within}
 use Rattle.sheets.specs.Forms.{sizeOf, savingCheck}
 use Rattle.sheets.specs.Results.{leafForm, pieceForm}
 use Rattle.demands.specs.Histories.{Round, Report, Fresh}
@@ -30,7 +31,7 @@ use Rattle.amended.specs.Deeds.{Sheets, Leaves, Pieces, formOf, Deed, Op
 use Rattle.amended.specs.Refusing.{ofBoard}
 use Rattle.amended.specs.Turns.{Pair, seen, shown, firstChecks, saveChecks, freshChecks, wayAt, answersOwn}
 use Rattle.amended.specs.Sharing.{isDone, Refused}
-use Rattle.amended.proofs.Answering.{clash, TakenBy, firsts, removeFirsts, lent-within, order-within, remove-order-within, way-within, add-refused, remove-refused, slot-refused, round-refused, report-refused, save-refused, fresh-refused, demand-1-amended}
+use Rattle.amended.proofs.Answering.{TakenBy, firsts, removeFirsts, lent-within, order-within, remove-order-within, way-within, add-refused, remove-refused, slot-refused, round-refused, report-refused, save-refused, fresh-refused, demand-1-amended}
 use Rattle.amended.proofs.Damaging.{fines, not-five, fine-within, save-not, add-not, remove-not}
 use Rattle.amended.proofs.Sharing.{Standing}
 use Rattle.amended.proofs.TurnRounds.{look-clear, slot-served}

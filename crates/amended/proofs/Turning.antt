@@ -6,13 +6,14 @@ use mathlib.Core.Bool.{true, false}
 use mathlib.Core.List.{List, [], _∷_}
 use Prim.Native.Nat.{ℕ}
 use lib.ListN.{length}
+use Rattle.general.proofs.Laws.{clash, by-bool}
 use Rattle.calls.specs.declared.Drive.{Drive}
 use Rattle.calls.specs.declared.Check.{Check}
 use Rattle.calls.specs.declared.Check.the-variants.{Clear, Refused}
 use Rattle.calls.specs.Refusals.{slotCheck}
 use Rattle.calls.specs.Answers.{answered}
 use Rattle.calls.specs.Results.{ifClear, movedOn, servedName, servedLeaf, servedPassed, servedRound, refreshedBoard}
-use Rattle.calls.proofs.Laws.{by-bool, number-some}
+use Rattle.calls.proofs.Laws.{number-some}
 use Rattle.demands.specs.Histories.{Act, Slot, Round, Report, State, does, after, log}
 use Rattle.demands.specs.Rounds.{names}
 use Rattle.demands.proofs.Laws.{stateAt, after-append, names-append}
@@ -34,7 +35,6 @@ use Rattle.amended.specs.Turns.{Pair, exchanged, seen, shown, firstCheck
 use Rattle.amended.proofs.Carrying.{carry-all, acts-names}
 use Rattle.amended.proofs.Projection.{not-clear, is-clear}
 use Rattle.amended.proofs.Projecting as projecting
-use Rattle.amended.proofs.Answering.{clash}
 
 -- ---- the other drive's history
 

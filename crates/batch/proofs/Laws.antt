@@ -7,9 +7,9 @@ use mathlib.Core.List.{List, [], _∷_, _++_, map}
 use Prim.Native.Nat.{ℕ}
 use lib.Dec.{eqb}
 use borrow.Author.Tests.{eq-eqb, ne-eqb, eqb-true, eqb-false}
+use Rattle.general.proofs.Laws.{unique, by-bool}
 use Rattle.calls.specs.declared.Drive.{Drive}
 use Rattle.calls.specs.Answers.{Answer}
-use Rattle.calls.proofs.Laws.{by-bool, unique}
 use Rattle.waiting.specs.declared.Order.{Order}
 use Rattle.orders.specs.declared.Ordered.{Ordered}
 use Rattle.orders.specs.Answers.{orderingAnswer}

@@ -7,6 +7,7 @@ use Prim.Native.Nat.{ℕ, _≤_}
 use native.Mathlib.Omega.{arith}
 use lib.Dec.{eqb, ltb}
 use borrow.Author.Tests.{eq-eqb}
+use Rattle.general.proofs.Laws.{by-bool}
 use Rattle.pieces.specs.Board.{weight}
 use Rattle.pieces.specs.Placing.{placed, admitted, admission}
 use Rattle.pieces.specs.declared.Admission.the-variants as admission
@@ -21,7 +22,7 @@ use Rattle.calls.specs.declared.Check.the-variants.{Clear, Refused}
 use Rattle.calls.specs.Refusals.{numberOf, askedAdd, admitMay, numbers, zeroOr, admitCheck, addCheck}
 use Rattle.calls.specs.Answers.{numberBy, changeAnswer}
 use Rattle.calls.specs.Results.{added, addedAnswer, addedBoard}
-use Rattle.calls.proofs.Checking.{by-bool, add-parts, admit-clear}
+use Rattle.calls.proofs.Checking.{add-parts}
 use Rattle.calls.proofs.Calling.{first-within, other-number}
 
 -- what admitting counts is at most C, whatever the weight

@@ -5,25 +5,18 @@ use mathlib.Core.Path.{_≡_, refl, sym, ap, _∙_}
 use mathlib.Core.Bool.{Bool, true, false, _&&_, or-true}
 use mathlib.Core.List.{List, [], _∷_}
 use Prim.Native.Nat.{ℕ}
-use native.Mathlib.Omega.{arith}
 use lib.Dec.{eqb}
 use lib.ListN.{getD}
 use borrow.Author.Tests.{eq-eqb, eqb-true}
+use Rattle.general.proofs.Laws.{clash, both, by-bool}
 use Rattle.calls.specs.declared.Refusal.{Refusal}
 use Rattle.calls.specs.declared.Refusal.the-variants.{Capacity, Short, Position, Midround, Damaged, Name, Weight, Taken, Absent, Room, Output, Block}
 use Rattle.calls.specs.declared.Check.{Check}
 use Rattle.calls.specs.declared.Check.the-variants.{Clear, Refused}
 use Rattle.calls.specs.Refusals.{Asked, numberOf, applies, firstOf, refuseIf, andThen, zeroOr, numbers, among}
 use Rattle.calls.specs.Answers.{Answer, numberBy}
-use Rattle.calls.proofs.Checking.{by-bool}
-
-clash : {P : Type 0} {b : Bool} → b ≡ true → b ≡ false → P
-clash t f = let z : _≡_ {A = ℕ} 0 1 = cc in absurd (omega arith)
 
 -- ---- no second answer fits: each part of a promise is an equation
-
-pub unique : {A : Type 0} {x y z : A} → x ≡ z → y ≡ z → x ≡ y
-unique p q = p ∙ sym q
 
 -- ---- the numbers of the table: none is 0, and each tells its refusal
 
@@ -117,15 +110,11 @@ unfolding zeroOr
 covers ms [] = true
 covers ms (n ∷ ns) = zeroOr n ms && covers ms ns
 
-pub and-both : (a b : Bool) → (a && b) ≡ true → (a ≡ true) × (b ≡ true)
-and-both true b e = (refl, e)
-and-both false b e = clash e refl
-
 wider : (n : ℕ) (ms ns : List ℕ) → covers ms ns ≡ true → zeroOr n ns ≡ true → zeroOr n ms ≡ true
 unfolding covers zeroOr
 wider n ms [] c e = rw (eqb-true n 0 e) (zero-in ms)
 wider n ms (m ∷ ns) c e =
-    let f = and-both (zeroOr m ms) (covers ms ns) c in
+    let f = both (zeroOr m ms) (covers ms ns) c in
     by-bool (eqb n m)
     (λ t. rw (eqb-true n m t) (f .0))
     (λ t. wider n ms ns (f .1) (rw t at e))

@@ -1,7 +1,7 @@
 -- The checks of a call: a list of refusals is looked through part by part, and what is known once no refusal of it applies.
 -- Assumes nothing.
 use mathlib.Core.Path.{_≡_, refl, sym, _∙_}
-use mathlib.Core.Bool.{Bool, true, false, not, _||_}
+use mathlib.Core.Bool.{Bool, true, false, not}
 use mathlib.Core.List.{List, [], _∷_, _++_}
 use Prim.Native.Nat.{ℕ, zero, _*_, _-_, _%_, _^_, _≤_, _<_}
 use native.Mathlib.Omega.{arith}
@@ -9,6 +9,7 @@ use lib.Dec.{eqb, ltb}
 use lib.ListN.{length}
 use lib.Pow.{pow-pos}
 use borrow.Author.Tests.{eqb-true, eqb-false, ne-eqb, ltb-false, le-ltb, not-false}
+use Rattle.general.proofs.Laws.{neither}
 use Rattle.sequences.specs.Board as sequences
 use Rattle.sequences.proofs.Laws.{digits-small, shift-exact}
 use Rattle.pieces.specs.Board.{good, weight}
@@ -78,10 +79,6 @@ module _ (d : Drive) (B : List ℕ) where
       first-next slotMay (Damaged ∷ Name ∷ Absent ∷ []) (askedName d B x)
       ∙ rw (first-next (Damaged ∷ []) (Name ∷ Absent ∷ []) (askedName d B x))
 
-pub by-bool {ℓ} : {P : Type ℓ} (b : Bool) → (b ≡ true → P) → (b ≡ false → P) → P
-by-bool true t f = t refl
-by-bool false t f = f refl
-
 -- two parts find nothing where each does
 pub first-clear : (j k : Check) → andThen j k ≡ Clear → j ≡ Clear
 first-clear Clear k e = refl
@@ -91,13 +88,14 @@ pub then-clear : (j k : Check) → andThen j k ≡ Clear → k ≡ Clear
 then-clear Clear k e = e
 then-clear (Refused r) k e = let z : _≡_ {A = ℕ} 0 1 = cc in absurd (omega arith)
 
-clear-refuse : (b : Bool) (r : Refusal) (k : Check) → refuseIf b r k ≡ Clear → (b ≡ false) × (k ≡ Clear)
-clear-refuse true r k e = let z : _≡_ {A = ℕ} 0 1 = cc in absurd (omega arith)
-clear-refuse false r k e = (refl, e)
+-- a part that finds nothing changes nothing
+pub then-none : (k : Check) → andThen k Clear ≡ k
+then-none Clear = refl
+then-none (Refused r) = refl
 
-neither : (a b : Bool) → (a || b) ≡ false → (a ≡ false) × (b ≡ false)
-neither true b e = let z : _≡_ {A = ℕ} 0 1 = cc in absurd (omega arith)
-neither false b e = (refl, e)
+pub refuse-clear : (b : Bool) (r : Refusal) (k : Check) → refuseIf b r k ≡ Clear → (b ≡ false) × (k ≡ Clear)
+refuse-clear true r k e = let z : _≡_ {A = ℕ} 0 1 = cc in absurd (omega arith)
+refuse-clear false r k e = (refl, e)
 
 -- What is known once no refusal applies: of each refusal of the list that its test is false.
 
@@ -108,7 +106,7 @@ Passed (r ∷ rs) a = (applies r a ≡ false) × Passed rs a
 pub passed : (rs : List Refusal) (a : Asked) → firstOf rs a ≡ Clear → Passed rs a
 unfolding Passed firstOf
 passed [] a e = tt
-passed (r ∷ rs) a e = let f = clear-refuse (applies r a) r (firstOf rs a) e in (f .0, passed rs a (f .1))
+passed (r ∷ rs) a e = let f = refuse-clear (applies r a) r (firstOf rs a) e in (f .0, passed rs a (f .1))
 
 -- the capacity and the board's length
 pub record Sized (C : ℕ) (B : List ℕ) : Type 0 where
@@ -180,7 +178,7 @@ module _ (d : Drive) (B : List ℕ) where
   pub add-clear : (x w : ℕ) → addCheck d B x w ≡ Clear → Placeable (d .capacity) B x w
   add-clear x w e =
       let a = admit-clear x w (add-admit x w e) in
-      let f = clear-refuse (ltb (weight (d .capacity) B 0) w) Room Clear (then-clear (admitCheck d B x w) _ (sym (add-parts d B x w) ∙ e)) in
+      let f = refuse-clear (ltb (weight (d .capacity) B 0) w) Room Clear (then-clear (admitCheck d B x w) _ (sym (add-parts d B x w) ∙ e)) in
       record {
         small = a .small;
         long = a .long;

@@ -11,6 +11,7 @@ use native.Mathlib.Omega.{arith}
 use lib.Dec.{eqb, ltb}
 use lib.ListN.{length, getD}
 use borrow.Author.Tests.{eq-eqb, ne-eqb, eqb-true, ltb-true, le-ltb}
+use Rattle.general.proofs.Laws.{unique, both, by-bool}
 use Rattle.sequences.specs.Board.{leafAt, servedFrom, nextFrom, Position}
 use Rattle.sequences.specs.Serving.{countList, leavesFrom}
 use Rattle.sequences.proofs.Laws.{first-position, leaf-below, next-position, round-once}
@@ -35,8 +36,8 @@ use Rattle.calls.specs.Records.{driveAt}
 use Rattle.calls.specs.Refusals.{Asked, numberOf, applies, firstOf, zeroOr, numbers, among, openMay, addMay, removeMay, slotMay, roundMay, reportMay, changeMay, askedOpen, askedAdd, askedName, asked, askedOutput, openCheck, addCheck, removeCheck, slotCheck, changeCheck, roundCheck, reportCheck, goodCheck, newCheck}
 use Rattle.calls.specs.Answers.{Answer, beside, openingAnswer, changeAnswer, servingAnswer, roundingAnswer, refreshingAnswer, reportAnswer}
 use Rattle.calls.specs.Results.{idleBoard, ifClear, changeBy, admittedBy, openedAnswer, addedIdle, addedAnswer, addedBoard, removedIdle, removedAnswer, removedBoard, refreshedAnswer, refreshedBoard, servedAnswer, slotNames, roundNames, roundedAnswer, reportedSpacing, reportedAnswer}
-use Rattle.calls.proofs.Checking.{by-bool, change-parts, change-slot, change-start, add-change, add-clear, add-weight, remove-change, remove-clear, remove-held}
-use Rattle.calls.proofs.Calling.{unique, Refuses, refuses, refusal, may, first-within, first-among, never-within, and-both}
+use Rattle.calls.proofs.Checking.{change-parts, change-slot, change-start, add-change, add-clear, add-weight, remove-change, remove-clear, remove-held}
+use Rattle.calls.proofs.Calling.{Refuses, refuses, refusal, may, first-within, first-among, never-within}
 use Rattle.calls.specs.Spacing.{roundedUp}
 use Rattle.calls.proofs.Spaced as spaced
 use Rattle.calls.proofs.Checking.{admit-parts}
@@ -45,7 +46,7 @@ use Rattle.calls.specs.Promises.{Opens, Adds, Removes, Refreshes, Serves
 -- ---- what is known once the checks of a call are clear
 
 unfoldable pub use Rattle.calls.proofs.Checking.{Passed}
-pub use Rattle.calls.proofs.Checking.{by-bool, Sized, passed, first-next, first-clear, then-clear, open-clear, open-sized, slot-sized, slot-parts, change-parts, slot-position, change-slot, change-start, change-good, admit-change, admit-clear, add-parts, remove-parts, add-change, add-weight, add-clear, remove-change, remove-held, remove-clear, round-slot, round-room, report-slot, report-good, report-held}
+pub use Rattle.calls.proofs.Checking.{Sized, passed, first-next, first-clear, then-clear, then-none, refuse-clear, open-clear, open-sized, slot-sized, slot-parts, change-parts, slot-position, change-slot, change-start, change-good, admit-change, admit-clear, add-parts, remove-parts, add-change, add-weight, add-clear, remove-change, remove-held, remove-clear, round-slot, round-room, report-slot, report-good, report-held}
 pub use Rattle.calls.proofs.Admitting.{add-full}
 -- ---- spacing: the longest wait from one serve to the next (document 02, request No. 1)
 
@@ -57,7 +58,7 @@ pub use Rattle.calls.proofs.Spaced.{leaves-times, names-times, two-roun
 -- ---- what holds of every call
 
 unfoldable pub use Rattle.calls.proofs.Calling.{covers}
-pub use Rattle.calls.proofs.Calling.{unique, number-some, number-tells, clear-number, Refuses, refuses, refusal, Within, within-among, may, first-within, first-among, then-within, if-within, part-within, other-number, never-within}
+pub use Rattle.calls.proofs.Calling.{number-some, number-tells, clear-number, Refuses, refuses, refusal, Within, within-among, may, first-within, first-among, then-within, if-within, part-within, other-number, never-within}
 
 -- ---- "the lowest number that applies is answered"
 
@@ -79,7 +80,7 @@ above : (n m : ℕ) (rs : List Refusal) (a : Asked) → n ≤ m → ascending m 
 unfolding Lowest ascending
 above n m [] a h e = tt
 above n m (r ∷ rs) a h e =
-    let f = and-both (ltb m (numberOf r)) (ascending (numberOf r) rs) e in
+    let f = both (ltb m (numberOf r)) (ascending (numberOf r) rs) e in
     let l = ltb-true m (numberOf r) (f .0) in
     ((λ t. omega arith), above n (numberOf r) rs a (omega arith) (f .1))
 
@@ -88,7 +89,7 @@ pub first-lowest : (n : ℕ) (rs : List Refusal) (a : Asked) (r : Refusal) → a
 unfolding Lowest ascending firstOf
 first-lowest n [] a r o e = let z : _≡_ {A = ℕ} 0 1 = cc in absurd (omega arith)
 first-lowest n (s ∷ rs) a r o e =
-    let f = and-both (ltb n (numberOf s)) (ascending (numberOf s) rs) o in
+    let f = both (ltb n (numberOf s)) (ascending (numberOf s) rs) o in
     by-bool (applies s a)
     (λ t.
     let g : s ≡ r = let h = rw t at e in cc in

@@ -12,10 +12,10 @@ use lib.Dec.{eqb}
 use lib.ListN.{length, replicate, length-append, length-replicate, length-map}
 use lib.Pow.{pow-pos}
 use borrow.Author.Tests.{eq-eqb, eqb-true}
+use Rattle.general.proofs.Laws.{by-bool}
 use Rattle.sequences.specs.Serving.{countList, leavesFrom}
 use Rattle.sequences.proofs.Laws.{leaves-length, round-once, round-halves}
 use Rattle.calls.specs.Spacing.{slotsOf, distancesFrom, distances, largest, spacingIn}
-use Rattle.calls.proofs.Checking.{by-bool}
 use Rattle.calls.proofs.Writing.{map-append}
 
 -- ---- names read one by one, d slots after the last serve of x

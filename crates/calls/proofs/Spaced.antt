@@ -1,7 +1,7 @@
 -- The spacing of a stream on a board: two rounds of slots, the serves of one round, and how far the spacing is from C/w rounded up.
 -- Assumes nothing.
 use mathlib.Core.Path.{_≡_, refl, sym, ap, _∙_}
-use mathlib.Core.Bool.{Bool, true, false}
+use mathlib.Core.Bool.{Bool, true}
 use mathlib.Core.List.{List, [], _∷_, _++_, map}
 use Prim.Native.Nat.{ℕ, zero, suc, _+_, _-_, _*_, _/_, _%_, _^_, _≤_, _<_}
 use native.Mathlib.Nat.{zero-add, mul-comm, div-self, div-lt-iff-lt-mul, div-add-mod', mod-lt}
@@ -12,10 +12,11 @@ use lib.Dec.{eqb}
 use lib.ListN.{length, getD}
 use lib.Pow.{pow-pos}
 use borrow.Author.Tests.{eq-eqb, ne-eqb}
+use Rattle.general.specs.Tests.{one}
 use Rattle.sequences.specs.Board.{leafAt, servedFrom}
-use Rattle.sequences.specs.Serving.{one, countIn, countList, leavesFrom, afterSlots}
+use Rattle.sequences.specs.Serving.{countIn, countList, leavesFrom, afterSlots}
 use Rattle.sequences.proofs.Laws.{count-more, count-map, round-counts, round-ends, leaves-append}
-use Rattle.pieces.specs.Board.{bit, good, weight, number}
+use Rattle.pieces.specs.Board.{good, weight, number}
 use Rattle.pieces.specs.Literal.{RunOf}
 use Rattle.pieces.proofs.Laws.{pieces-ones, digit-piece}
 use Rattle.calls.specs.Spacing.{slotsOf, spacingIn, roundedUp}
@@ -48,17 +49,13 @@ ones-one = bin-ind (λ (n : ℕ). ones n ≡ 1 → (l : ℕ) × (n ≡ 2 ^ l)) (
 
 -- ---- the names of a round
 
-bit-one : (b : Bool) → bit b ≡ one b
-bit-one true = refl
-bit-one false = refl
-
 weight-counted : (n : ℕ) (B : List ℕ) (x : ℕ) → weight n B x ≡ countIn (λ (i : ℕ). eqb (getD B i 0) x) 0 n
 unfolding weight countIn
 weight-counted zero B x = refl
 weight-counted (suc n) B x =
     let f : ℕ → Bool = λ i. eqb (getD B i 0) x in
     let z : one (f (0 + n)) ≡ one (f n) = ap (λ (i : ℕ). one (f i)) (zero-add n) in
-    omega (arith, weight-counted n B x, bit-one (f n), count-more f 0 n)
+    omega (arith, weight-counted n B x, count-more f 0 n)
 
 -- ---- one slot more, as the code walks a round: p is the position after i slots, and leaf the one that slot i serves
 

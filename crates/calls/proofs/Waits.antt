@@ -8,10 +8,10 @@ use native.Mathlib.Nat.{add-zero, zero-add, add-suc, mul-le-mul-left, le-max-lef
 use native.Mathlib.Omega.{arith}
 use lib.Dec.{eqb}
 use lib.ListN.{length}
+use Rattle.general.proofs.Laws.{by-bool}
 use Rattle.sequences.specs.Serving.{countList}
 use Rattle.calls.specs.Spacing.{slotsOf, distancesFrom, distances, largest, spacingIn}
 use Rattle.calls.specs.Gaps.{lastFrom, gapsOf, servedAt, around}
-use Rattle.calls.proofs.Checking.{by-bool}
 
 -- ---- the slots that serve x
 

@@ -1,9 +1,7 @@
 // The calls on one drive's slot board: open, add, remove, slot, round, report, the fresh layout, and the refusals of document 01.
 ghost use mathlib.Core.Path.{_≡_};
-ghost use mathlib.Core.List.{_++_};
 ghost use Prim.Native.Nat.{_≤_};
-ghost use lib.ListN.{length, drop};
-ghost use Rattle.sequences.specs.Board.{Position};
+ghost use lib.ListN.{length};
 ghost use Rattle.calls.specs.Records.{driveAt, roundAfter, movedTo};
 ghost use Rattle.calls.specs.Refusals as refusals;
 ghost use Rattle.calls.specs.Refusals.{numberOf};
@@ -12,6 +10,7 @@ ghost use Rattle.calls.specs.Promises as promises;
 use pieces::Admission;
 
 pub mod checks;
+pub mod rounds;
 pub mod spacing;
 
 // The drive record: the capacity C, the position p, and the number of the round that the slot at p belongs to. Its type owns the limits and the calls.
@@ -320,7 +319,7 @@ impl Drive {
                 answer: Rounding::Refused(r),
             },
             Check::Clear => {
-                write_round(board, self.capacity as usize, output);
+                rounds::write_round(board, self.capacity as usize, output);
                 Rounded {
                     drive: self,
                     answer: Rounding::Done,
@@ -373,22 +372,6 @@ fn make_idle(board: &mut [u16], c: usize)
     let mut i: usize = 0;
     while i < c {
         board[i] = 0;
-        i += 1;
-    }
-}
-
-// Writes the names of the c slots from position 1 on to the start of the output.
-fn write_round(board: &[u16], c: usize, output: &mut [u16])
-    requires { ⌜ (Position c 1) × (c ≤ length (now board)) × (c ≤ length (now output)) ⌝ }
-    ensures { λ _. ⌜ now (output .exit) ≡ results.roundNames c (now (board .entry)) ++ drop c (now (output .entry)) ⌝ }
-{
-    let mut p: usize = 1;
-    let mut i: usize = 0;
-    while i < c {
-        let served = sequences::pick(c, p);
-        let at = served.leaf;
-        output[i] = board[at];
-        p = served.next;
         i += 1;
     }
 }

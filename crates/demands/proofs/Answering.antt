@@ -6,6 +6,7 @@ use mathlib.Core.List.{List, [], _∷_}
 use Prim.Native.Nat.{ℕ}
 use native.Mathlib.Omega.{arith}
 use lib.Dec.{eqb}
+use Rattle.general.proofs.Laws.{clash}
 use Rattle.pieces.specs.Board.{weight}
 use Rattle.calls.specs.declared.Refusal.{Refusal}
 use Rattle.calls.specs.declared.Refusal.the-variants.{Damaged, Room}
@@ -17,7 +18,7 @@ use Rattle.calls.specs.Results.{ifClear}
 use Rattle.calls.proofs.Laws.{number-tells, clear-number, other-number}
 use Rattle.demands.specs.Histories.{State}
 use Rattle.demands.specs.Refusing.{zeros, refusedValues}
-use Rattle.demands.proofs.Checks.{clash, first-applies}
+use Rattle.demands.proofs.Checks.{first-applies}
 
 -- DAMAGED only if that applies
 pub undamaged : (rs : List Refusal) (q : Asked) → applies Damaged q ≡ false → numberBy (firstOf rs q) ≡ 5 → ⊥

@@ -5,15 +5,11 @@ use mathlib.Core.Bool.{Bool, true, false}
 use mathlib.Core.List.{List, [], _∷_, _++_}
 use Prim.Native.Nat.{ℕ}
 use native.Mathlib.Omega.{arith}
-use Rattle.sequences.specs.Serving.{one}
 use Rattle.calls.specs.declared.Refusal.{Refusal}
 use Rattle.calls.specs.declared.Check.{Check}
 use Rattle.calls.specs.declared.Check.the-variants.{Clear, Refused}
 use Rattle.calls.specs.Refusals.{Asked, applies, firstOf, refuseIf}
 use Rattle.calls.proofs.Laws.{first-next}
-
-pub clash : {P : Type 0} {b : Bool} → b ≡ true → b ≡ false → P
-clash p q = absurd (let e : _≡_ {A = ℕ} 1 0 = ap one (sym p ∙ q) in omega arith)
 
 -- 0 for no refusal
 abbrev code : Check → ℕ

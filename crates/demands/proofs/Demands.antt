@@ -9,6 +9,7 @@ use native.Mathlib.Omega.{arith}
 use lib.Count.{ones}
 use lib.Dec.{eqb, ltb}
 use lib.ListN.{length, getD, replicate}
+use Rattle.general.proofs.Laws.{clash}
 use Rattle.sequences.specs.Scanning.{roundLeaves}
 use Rattle.sequences.specs.Board.{passedFrom, servedFrom, nextFrom}
 use Rattle.sequences.proofs.Laws.{passed-one, passed-clear, served-position, served-serves, leaf-literal, round-literal}
@@ -25,12 +26,11 @@ use Rattle.calls.specs.Results.{openedAnswer, slotNames, roundNames}
 use Rattle.calls.proofs.Laws.{clear-number, refusal, open-answers, add-answers, remove-answers, slot-answers, round-answers, report-answers, fresh-answers, open-clear, slot-sized, slot-position, change-slot, fresh-twice}
 use Rattle.demands.specs.Histories.{Act, Add, Remove, Slot, Round, Report, Fresh, State, Openable, does, says, opens, after, reach, log}
 use Rattle.demands.specs.Refusing.{mayAnswer, lent, writes, refusedValues, otherChecks}
-use Rattle.demands.specs.Holdings.{Stream, isChange, changesBoard, heldFrom, held, heldOf, total}
+use Rattle.demands.specs.Holdings.{isChange, changesBoard, heldFrom, held, heldOf, total}
 use Rattle.demands.specs.Rounds.{names, namesFrom, FullRound, InTurn, inARow, times, namesOn, Near, bound, demanded}
 use Rattle.demands.specs.Stretches.{Still, PowerOfTwo, PowerFair, StillFair}
 use Rattle.demands.specs.Layouts.{streamAdds, AllDone}
 use Rattle.demands.specs.Certificates.{certificates, ofSlot, slotsIn, Every, ToldRound}
-use Rattle.demands.proofs.Checks.{clash}
 use Rattle.demands.proofs.Answering.{beside-says, zeros-say, done-idle}
 use Rattle.demands.proofs.Valid.{Valid, slot-clear, clear-valid}
 use Rattle.demands.proofs.Reached.{Sound, after-one, held-append, same-either, opened-clear, always}

@@ -9,6 +9,7 @@ use native.Mathlib.Omega.{arith}
 use lib.Dec.{ltb}
 use lib.ListN.{length}
 use borrow.Author.Tests.{ne-eqb, le-ltb}
+use Rattle.general.proofs.Laws.{clash}
 use Rattle.sequences.specs.Serving.{leavesFrom, afterSlots}
 use Rattle.pieces.specs.Board.{good, weight, number}
 use Rattle.calls.specs.declared.Drive.{Drive}
@@ -21,7 +22,7 @@ use Rattle.demands.specs.Histories.{Act, Add, Remove, Slot, Round, Repor
 use Rattle.demands.specs.Refusing.{otherChecks}
 use Rattle.demands.specs.Holdings.{Stream, changesBoard, heldOf, total}
 use Rattle.demands.specs.Rounds.{namesFrom, FullRound, inARow, times, Near, bound}
-use Rattle.demands.proofs.Checks.{clash, none-applies, first-after}
+use Rattle.demands.proofs.Checks.{none-applies, first-after}
 use Rattle.demands.proofs.Answering.{undamaged, room-number, room-says}
 use Rattle.demands.proofs.Valid.{slot-clear, add-midround, remove-midround, fresh-midround}
 use Rattle.demands.proofs.Reached.{Sound}

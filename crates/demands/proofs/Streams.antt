@@ -12,8 +12,9 @@ use lib.Dec.{eqb}
 use lib.ListN.{getD}
 use lib.Pow.{pow-pos}
 use borrow.Author.Tests.{eq-eqb, ne-eqb, le-leb, lt-leb, lt-ltb, le-ltb}
+use Rattle.general.specs.Tests.{one}
 use Rattle.sequences.specs.Board.{digits, Position}
-use Rattle.sequences.specs.Serving.{one, inRun, leavesFrom, afterSlots, countList}
+use Rattle.sequences.specs.Serving.{inRun, leavesFrom, afterSlots, countList}
 use Rattle.sequences.proofs.Laws.{first-position, after-slots-valid, combine}
 use Rattle.pieces.specs.Board.{good, weight, number}
 use Rattle.pieces.proofs.Laws.{over-pieces, pieces-ones}

@@ -8,6 +8,7 @@ use native.Mathlib.Omega.{arith}
 use lib.Dec.{eqb}
 use lib.ListN.{length, replicate}
 use borrow.Author.Tests.{eq-eqb}
+use Rattle.general.proofs.Laws.{clash}
 use Rattle.sequences.specs.Board.{Position}
 use Rattle.sequences.specs.Serving.{leavesFrom, afterSlots, countList}
 use Rattle.sequences.proofs.Laws.{after-slots-valid}
@@ -19,7 +20,6 @@ use Rattle.demands.specs.Histories.{Act, Add, Remove, Slot, Round, Repor
 use Rattle.demands.specs.Holdings.{Stream, changesBoard, heldOf}
 use Rattle.demands.specs.Rounds.{names, inARow, times, namesOn, Near, bound, powerBound}
 use Rattle.demands.specs.Stretches.{noneDone, Still, PowerOfTwo, PowerFair, StillFair}
-use Rattle.demands.proofs.Checks.{clash}
 use Rattle.demands.proofs.Streams.{holds}
 use Rattle.demands.proofs.Valid.{Valid, stateAt, slot-moves, valid-next}
 use Rattle.demands.proofs.Reached.{Sound}

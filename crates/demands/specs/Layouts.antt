@@ -1,7 +1,7 @@
 -- Request No. 12: the adds as which a fresh layout leaves the board, one for each stream, by falling weight, then rising name.
 -- Assumes nothing.
 use mathlib.Core.Path.{_≡_}
-use mathlib.Core.List.{List, [], _∷_, map}
+use mathlib.Core.List.{List, [], _∷_}
 use Prim.Native.Nat.{ℕ}
 use Rattle.pieces.specs.Fresh as pieces
 use Rattle.demands.specs.Histories.{Act, Add, Event}

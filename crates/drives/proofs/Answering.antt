@@ -1,6 +1,6 @@
 -- What the calls for two drives answer: the numbers that each part of their checks may find, and what a change that is not done leaves as it was.
 -- Assumes nothing.
-use mathlib.Core.Path.{_≡_, refl, sym, _∙_}
+use mathlib.Core.Path.{_≡_, refl}
 use mathlib.Core.Bool.{Bool, true, false, cond, not, _||_}
 use mathlib.Core.List.{List, [], _∷_}
 use Prim.Native.Nat.{ℕ, max}
@@ -8,6 +8,7 @@ use native.Mathlib.Omega.{arith}
 use lib.Dec.{eqb, ltb}
 use lib.ListN.{length}
 use borrow.Author.Tests.{eq-eqb, eqb-true, ltb-false}
+use Rattle.general.proofs.Laws.{by-bool, clash}
 use Rattle.pieces.specs.Board.{good}
 use Rattle.calls.specs.declared.Drive.{Drive}
 use Rattle.calls.specs.declared.Refusal.{Refusal}
@@ -15,8 +16,7 @@ use Rattle.calls.specs.declared.Refusal.the-variants.{Capacity, Short, Position
 use Rattle.calls.specs.declared.Check.{Check}
 use Rattle.calls.specs.declared.Check.the-variants.{Clear, Refused}
 use Rattle.calls.specs.Refusals.{Asked, numberOf, applies, firstOf, refuseIf, andThen, zeroOr, numbers, asked, askedAdd, askedName, addMay, removeMay, addCheck, removeCheck}
-use Rattle.calls.specs.Answers.{numberBy}
-use Rattle.calls.proofs.Laws.{by-bool, number-tells, refusal, Within, first-within, then-within, if-within, covers, part-within, ascending, first-lowest}
+use Rattle.calls.proofs.Laws.{number-tells, refusal, Within, first-within, then-within, if-within, covers, part-within, ascending, first-lowest}
 use Rattle.waiting.specs.declared.Order.{Order}
 use Rattle.waiting.specs.Layout.{tooShort, ordersIn, full, takenList}
 use Rattle.orders.specs.declared.Way.{Way}
@@ -25,9 +25,6 @@ use Rattle.orders.specs.Checks.{orderCheck, waitsIf, wayBy}
 use Rattle.orders.specs.Results.{addOrder, removeOrder, carriedAnswer, carriedBoard, changedAnswerBy, boardBy, listBy}
 use Rattle.drives.specs.Checks.{sizeCheck, placeCheck, pairCheck, listCheck, bothStart, wayOf, startCheck}
 use Rattle.drives.specs.Results.{changedAnswer}
-
-clash : {P : Type 0} {t : Bool} → t ≡ true → t ≡ false → P
-clash t f = let z : _≡_ {A = ℕ} 0 1 = cc in absurd (omega arith)
 
 -- ---- the checks
 

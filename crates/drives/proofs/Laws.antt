@@ -1,7 +1,7 @@
 -- The laws of the calls for two drives that upper crates cite: no second answer fits; what a refusal and a wait leave as it was; that only the numbers of its list
 -- are answered; when a change is made at once and when the list is run; that neither drive comes first; and that one is two.
 -- Assumes nothing.
-use mathlib.Core.Path.{_≡_, refl, sym, ap, _∙_}
+use mathlib.Core.Path.{_≡_, refl, ap, _∙_}
 use mathlib.Core.Bool.{Bool, true, false, not}
 use mathlib.Core.List.{List, [], _∷_}
 use Prim.Native.Nat.{ℕ, _*_}
@@ -9,6 +9,7 @@ use native.Mathlib.Omega.{arith}
 use lib.Dec.{eqb}
 use lib.ListN.{length}
 use borrow.Author.Tests.{eqb-true}
+use Rattle.general.proofs.Laws.{unique}
 use Rattle.calls.specs.declared.Drive.{Drive}
 use Rattle.calls.specs.declared.Refusal.{Refusal}
 use Rattle.calls.specs.declared.Refusal.the-variants.{Midround}
@@ -22,7 +23,7 @@ use Rattle.calls.specs.Refusals.{zeroOr, refuseIf, numbers, among, asked, asked
 use Rattle.calls.specs.Answers.{Answer, servingAnswer, roundingAnswer, refreshingAnswer, reportAnswer}
 use Rattle.calls.specs.Results.{ifClear}
 use Rattle.calls.specs.Results as plain
-use Rattle.calls.proofs.Laws.{first-clear, then-clear, unique, Refuses, refuses, refusal, may, within-among, first-within, then-within, if-within, covers, part-within}
+use Rattle.calls.proofs.Laws.{first-clear, then-clear, Refuses, refuses, refusal, may, within-among, first-within, then-within, if-within, covers, part-within}
 use Rattle.sheets.specs.declared.Saved.{Saved}
 use Rattle.sheets.specs.Sheet.{blocks}
 use Rattle.sheets.specs.Forms.{sizeOf, savingCheck, savedOutputAs}

@@ -1,13 +1,14 @@
 -- The checks of two records: what the code finds part by part, what is known once they find nothing, and that neither record comes first in them.
 -- Assumes nothing.
 use mathlib.Core.Path.{_≡_, refl, sym, _∙_}
-use mathlib.Core.Bool.{Bool, true, false, not, _||_, _&&_, or-true, or-comm, and-comm}
+use mathlib.Core.Bool.{Bool, true, false, not, _||_, or-true, or-comm, and-comm}
 use mathlib.Core.List.{List, []}
 use Prim.Native.Nat.{ℕ, max, _-_, _^_, _≤_}
 use native.Mathlib.Omega.{arith}
 use lib.Dec.{eqb, ltb}
 use lib.ListN.{length}
 use borrow.Author.Tests.{lt-ltb, le-ltb, ltb-true, ltb-false, eq-eqb, ne-eqb, eqb-true, eqb-false, not-false}
+use Rattle.general.proofs.Laws.{by-bool, neither}
 use Rattle.sequences.specs.Board.{digits}
 use Rattle.calls.specs.declared.Drive.{Drive}
 use Rattle.calls.specs.declared.Refusal.{Refusal}
@@ -15,18 +16,10 @@ use Rattle.calls.specs.declared.Refusal.the-variants.{Capacity, Short, Position
 use Rattle.calls.specs.declared.Check.{Check}
 use Rattle.calls.specs.declared.Check.the-variants.{Clear, Refused}
 use Rattle.calls.specs.Refusals.{applies, asked, refuseIf, andThen, openCheck, slotCheck, positionCheck}
-use Rattle.calls.proofs.Laws.{by-bool, Sized, first-clear, then-clear, open-sized, slot-sized, slot-parts}
+use Rattle.calls.proofs.Laws.{Sized, first-clear, then-clear, open-sized, slot-sized, slot-parts, refuse-clear}
 use Rattle.drives.specs.Checks.{sizeCheck, placeCheck, pairCheck, listCheck, bothStart}
 
 -- ---- tests
-
-refuse-clear : (t : Bool) (r : Refusal) (k : Check) → refuseIf t r k ≡ Clear → (t ≡ false) × (k ≡ Clear)
-refuse-clear true r k e = let z : _≡_ {A = ℕ} 0 1 = cc in absurd (omega arith)
-refuse-clear false r k e = (refl, e)
-
-neither : (s t : Bool) → (s || t) ≡ false → (s ≡ false) × (t ≡ false)
-neither true t e = let z : _≡_ {A = ℕ} 0 1 = cc in absurd (omega arith)
-neither false t e = (refl, e)
 
 eqb-swap : (m n : ℕ) → eqb m n ≡ eqb n m
 eqb-swap m n = by-bool (eqb m n)

@@ -1,7 +1,7 @@
 -- One is two: a call for two drives that is given the same record in both places is the call of one drive, on every input.
 -- Assumes nothing.
-use mathlib.Core.Path.{_≡_, refl, sym, _∙_}
-use mathlib.Core.Bool.{Bool, true, false, not, _||_, _&&_}
+use mathlib.Core.Path.{_≡_, refl, _∙_}
+use mathlib.Core.Bool.{Bool, true, false, _||_, _&&_}
 use mathlib.Core.List.{List, [], _∷_}
 use Prim.Native.Nat.{ℕ, max, _*_}
 use native.Mathlib.Omega.{arith}
@@ -9,13 +9,12 @@ use lib.Dec.{eqb, ltb}
 use lib.ListN.{length}
 use borrow.Author.Tests.{eq-eqb}
 use Rattle.calls.specs.declared.Drive.{Drive}
-use Rattle.calls.specs.declared.Refusal.{Refusal}
 use Rattle.calls.specs.declared.Refusal.the-variants.{Capacity, Short, Position, Midround, Damaged, Name, Absent, Output}
 use Rattle.calls.specs.declared.Check.{Check}
 use Rattle.calls.specs.declared.Check.the-variants.{Clear, Refused}
 use Rattle.calls.specs.Refusals.{applies, asked, askedName, askedOutput, firstOf, slotMay, refuseIf, andThen, openCheck, slotCheck, positionCheck, roundCheck, reportCheck, changeCheck}
 use Rattle.calls.specs.Results as plain
-use Rattle.calls.proofs.Laws.{first-next, slot-parts}
+use Rattle.calls.proofs.Laws.{first-next, slot-parts, then-none}
 use Rattle.sheets.specs.Sheet.{blocks}
 use Rattle.sheets.specs.Forms.{sizeOf, savingCheck, savedAs, savedAnswerAs, savedOutputAs}
 use Rattle.sheets.specs.Results as sheets
@@ -32,10 +31,6 @@ use Rattle.drives.specs.Results.{boardThen, listThen, changed, changedAn
 again : (j k : Check) → andThen j (andThen j k) ≡ andThen j k
 again Clear k = refl
 again (Refused r) k = refl
-
-then-none : (k : Check) → andThen k Clear ≡ k
-then-none Clear = refl
-then-none (Refused r) = refl
 
 and-same : (t : Bool) → (t && t) ≡ t
 and-same true = refl

@@ -5,14 +5,15 @@ use mathlib.Core.Path.{_≡_, refl, ap, _∙_}
 use mathlib.Core.List.{List}
 use Prim.Native.Nat.{ℕ}
 use lib.ListN.{length}
+use Rattle.general.proofs.Laws.{unique}
 use Rattle.calls.specs.declared.Drive.{Drive}
 use Rattle.calls.specs.declared.Served.{Served}
-use Rattle.calls.proofs.Laws.{unique, refusal}
+use Rattle.calls.proofs.Laws.{refusal}
 use Rattle.orders.specs.Results as single
 use Rattle.drives.specs.Checks.{listCheck}
 use Rattle.drives.proofs.Laws.{slot-one-is-two}
-use Rattle.exports.specs.declared.Said.{Said}
-use Rattle.exports.specs.Replies.{saidOf}
+use Rattle.replies.specs.declared.Said.{Said}
+use Rattle.replies.specs.Replies.{saidOf}
 use Rattle.exports.specs.Promises.{ServesHere}
 
 module _ (a b : Drive) (B L : List ℕ) where

@@ -5,11 +5,12 @@ use mathlib.Core.Path.{_≡_, refl, ap, _∙_}
 use mathlib.Core.List.{List}
 use Prim.Native.Nat.{ℕ}
 use lib.ListN.{length}
+use Rattle.general.proofs.Laws.{unique}
 use Rattle.calls.specs.declared.Drive.{Drive}
-use Rattle.calls.proofs.Laws.{unique, refusal}
+use Rattle.calls.proofs.Laws.{refusal}
 use Rattle.shares.specs.States.{State}
 use Rattle.shares.specs.Checks.{listCheck}
-use Rattle.exports.specs.declared.Said.{Said}
+use Rattle.replies.specs.declared.Said.{Said}
 use Rattle.exports.specs.Serving.{ShareServesHere}
 
 module _ (a b : Drive) (s : State) (L : List ℕ) where

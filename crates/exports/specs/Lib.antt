@@ -1,4 +1,3 @@
-pub mod Replies
 pub mod Promises
 pub mod Serving
 pub mod Tables

@@ -7,9 +7,9 @@ use Prim.Native.Nat.{ℕ}
 use Rattle.calls.specs.declared.Drive.{Drive}
 use Rattle.shares.specs.States.{State}
 use Rattle.shares.specs.Results.{served, servedAnswer, servedState, servedList}
-use Rattle.exports.specs.declared.Said.{Said}
-use Rattle.exports.specs.declared.Reply.{Reply}
-use Rattle.exports.specs.Replies.{saidOf, reply}
+use Rattle.replies.specs.declared.Said.{Said}
+use Rattle.replies.specs.declared.Reply.{Reply}
+use Rattle.replies.specs.Replies.{saidOf, reply}
 
 abbrev pub ShareServes : Drive → Drive → State → List ℕ → Reply → State → List ℕ → Type 0
 ShareServes a b s L r t F = (r ≡ reply (served a b s L .drive) (servedAnswer a b s L)) × (t ≡ servedState a b s L) × (F ≡ servedList a b s L)

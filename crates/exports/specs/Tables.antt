@@ -16,8 +16,8 @@ use Rattle.share_boards.specs.Looking.{roundedAnswer, roundedOutput, reportedAn
 use Rattle.share_boards.specs.Starting.{savedAnswer, savedOutput, savedPiecesAnswer, savedPiecesOutput, refreshedAnswer, refreshedState}
 use Rattle.groups.specs.declared.Finding.{Finding}
 use Rattle.groups.specs.Results.{resultBy, answerBy, boardBy, listBy, outputBy, tableBy}
-use Rattle.exports.specs.declared.Reply.{Reply}
-use Rattle.exports.specs.Replies.{reply}
+use Rattle.replies.specs.declared.Reply.{Reply}
+use Rattle.replies.specs.Replies.{reply}
 
 abbrev pub ShareOpens : ℕ → State → List ℕ → Reply → State → List ℕ → Type 0
 ShareOpens C s L r t F =

@@ -7,25 +7,17 @@ ghost use Rattle.sheets.specs.Results.{leafForm, pieceForm};
 ghost use Rattle.sheets.specs.Conversions as conversions;
 ghost use Rattle.orders.specs.Results as results;
 ghost use Rattle.drives.specs.Results as pair;
-ghost use Rattle.exports.specs.Replies.{saidOf, reply};
-use crate::Reply;
-use crate::Said;
-use crate::said_loading;
-use crate::said_saving;
+ghost use Rattle.replies.specs.Replies.{saidOf, reply};
 use calls::Drive;
+use replies::Reply;
+use replies::Said;
 
 // Saves a board by its pieces, at any position: its sheet at the start of the output, and how many bytes that is.
 #[no_mangle]
 pub extern "C" fn mandrozsi_save_pieces(drive: Drive, board: &[u16], output: &mut [u8]) -> Reply
     ensures { λ r. ⌜ (r ≡ reply drive (forms.savedAnswerAs pieceForm drive (now (board .entry)) (now (output .entry)))) × (now (output .exit) ≡ forms.savedOutputAs pieceForm drive (now (board .entry)) (now (output .entry))) ⌝ }
 {
-    let saved = sheets::save_pieces(drive, board, output);
-    let after = saved.drive;
-    let answer = saved.answer;
-    Reply {
-        drive: after,
-        said: said_saving(answer),
-    }
+    replies::of_saved(sheets::save_pieces(drive, board, output))
 }
 
 // Saves a board by its pieces, where both drives are at one position.
@@ -38,13 +30,7 @@ pub extern "C" fn mandrozsi_pair_save_pieces(
 ) -> Reply
     ensures { λ r. ⌜ (r ≡ reply own (pair.savedPiecesAnswer own other (now (board .entry)) (now (output .entry)))) × (now (output .exit) ≡ pair.savedPiecesOutput own other (now (board .entry)) (now (output .entry))) ⌝ }
 {
-    let saved = drives::save_pieces(own, other, board, output);
-    let after = saved.drive;
-    let answer = saved.answer;
-    Reply {
-        drive: after,
-        said: said_saving(answer),
-    }
+    replies::of_saved(drives::save_pieces(own, other, board, output))
 }
 
 // Reads a sheet of pieces: the leaves of a board, and a record at the sheet's position. The list is emptied.
@@ -52,13 +38,7 @@ pub extern "C" fn mandrozsi_pair_save_pieces(
 pub extern "C" fn mandrozsi_read_pieces(sheet: &[u8], board: &mut [u16], list: &mut [u64]) -> Reply
     ensures { λ r. ⌜ (r ≡ reply (results.loadedAs pieceForm (now (sheet .entry)) (now (board .entry)) (length (now (list .entry))) .drive) (results.loadedAnswerAs pieceForm (now (sheet .entry)) (now (board .entry)) (length (now (list .entry))))) × (now (board .exit) ≡ results.loadedBoardAs pieceForm (now (sheet .entry)) (now (board .entry)) (length (now (list .entry)))) × (now (list .exit) ≡ results.loadedListAs pieceForm (now (sheet .entry)) (now (board .entry)) (now (list .entry))) ⌝ }
 {
-    let loaded = orders::read_pieces(sheet, board, list);
-    let after = loaded.drive;
-    let answer = loaded.answer;
-    Reply {
-        drive: after,
-        said: said_loading(answer),
-    }
+    replies::of_loaded(orders::read_pieces(sheet, board, list))
 }
 
 // Writes a sheet of leaves as one of pieces: how many bytes that is.
@@ -66,8 +46,7 @@ pub extern "C" fn mandrozsi_read_pieces(sheet: &[u8], board: &mut [u16], list: &
 pub extern "C" fn mandrozsi_to_pieces(sheet: &[u8], output: &mut [u8]) -> Said
     ensures { λ r. ⌜ (r ≡ saidOf (conversions.convertedAnswer leafForm pieceForm conversions.anywhere (now (sheet .entry)) (now (output .entry)))) × (now (output .exit) ≡ conversions.convertedOutput leafForm pieceForm conversions.anywhere (now (sheet .entry)) (now (output .entry))) ⌝ }
 {
-    let answer = sheets::to_pieces(sheet, output);
-    said_saving(answer)
+    replies::said_saving(sheets::to_pieces(sheet, output))
 }
 
 // Writes a sheet of pieces that was saved at p = 1 as one of leaves: how many bytes that is.
@@ -75,6 +54,5 @@ pub extern "C" fn mandrozsi_to_pieces(sheet: &[u8], output: &mut [u8]) -> Said
 pub extern "C" fn mandrozsi_to_leaves(sheet: &[u8], output: &mut [u8]) -> Said
     ensures { λ r. ⌜ (r ≡ saidOf (conversions.convertedAnswer pieceForm leafForm conversions.atStart (now (sheet .entry)) (now (output .entry)))) × (now (output .exit) ≡ conversions.convertedOutput pieceForm leafForm conversions.atStart (now (sheet .entry)) (now (output .entry))) ⌝ }
 {
-    let answer = sheets::to_leaves(sheet, output);
-    said_saving(answer)
+    replies::said_saving(sheets::to_leaves(sheet, output))
 }

@@ -2,26 +2,9 @@
 ghost use mathlib.Core.Path.{_≡_};
 ghost use Rattle.groups.specs.Results as results;
 ghost use Rattle.shares.specs.States.{lent};
-ghost use Rattle.exports.specs.Replies.{saidOf, reply};
+ghost use Rattle.replies.specs.Replies.{reply};
 ghost use Rattle.exports.specs.Tables.{ShareImports};
-use crate::Reply;
-use crate::Said;
-use crate::said_done;
-use crate::said_refused;
-use crate::said_told;
-use groups::Importing;
-
-// The answer of an import.
-fn said_importing(answer: Importing) -> Said
-    ensures { λ r. ⌜ r ≡ saidOf (results.importingAnswer answer) ⌝ }
-{
-    match answer {
-        Importing::Done => said_done(0, 0, 0, 0),
-        Importing::Power => said_told(16, 0),
-        Importing::Group => said_told(18, 0),
-        Importing::Refused(why) => said_refused(why, 0),
-    }
-}
+use replies::Reply;
 
 // Imports a group table: its round to the start of the output, its streams to an opened board. The list is emptied.
 #[no_mangle]
@@ -35,13 +18,7 @@ pub extern "C" fn mandrozsi_import(
 ) -> Reply
     ensures { λ r. ⌜ (r ≡ reply (results.imported capacity (now (starts .entry)) (now (names .entry)) (now (board .entry)) (now (list .entry)) (now (output .entry)) .drive) (results.importedAnswer capacity (now (starts .entry)) (now (names .entry)) (now (board .entry)) (now (list .entry)) (now (output .entry)))) × (now (board .exit) ≡ results.importedBoard capacity (now (starts .entry)) (now (names .entry)) (now (board .entry)) (now (list .entry)) (now (output .entry))) × (now (list .exit) ≡ results.importedList capacity (now (starts .entry)) (now (names .entry)) (now (board .entry)) (now (list .entry)) (now (output .entry))) × (now (output .exit) ≡ results.importedOutput capacity (now (starts .entry)) (now (names .entry)) (now (board .entry)) (now (list .entry)) (now (output .entry))) ⌝ }
 {
-    let imported = groups::import(capacity, starts, names, board, list, output);
-    let after = imported.drive;
-    let answer = imported.answer;
-    Reply {
-        drive: after,
-        said: said_importing(answer),
-    }
+    replies::of_imported(groups::import(capacity, starts, names, board, list, output))
 }
 
 // Imports a group table where the tables of over-allocated streams are lent: they are cleared.
@@ -59,7 +36,7 @@ pub extern "C" fn mandrozsi_share_import(
 ) -> Reply
     ensures { λ r. ⌜ ShareImports (results.findsShares capacity (now (starts .entry)) (now (names .entry)) (now (board .entry)) (now (rates .entry)) (now (owed .entry)) (now («owed_other» .entry)) (now (list .entry)) (now (output .entry))) capacity (now (starts .entry)) (now (names .entry)) (lent (now (board .entry)) (now (rates .entry)) (now (owed .entry)) (now («owed_other» .entry))) (now (list .entry)) (now (output .entry)) r (lent (now (board .exit)) (now (rates .exit)) (now (owed .exit)) (now («owed_other» .exit))) (now (list .exit)) (now (output .exit)) ⌝ }
 {
-    let imported = groups::import_shares(
+    replies::of_imported(groups::import_shares(
         capacity,
         starts,
         names,
@@ -69,11 +46,5 @@ pub extern "C" fn mandrozsi_share_import(
         owed_other,
         list,
         output,
-    );
-    let after = imported.drive;
-    let answer = imported.answer;
-    Reply {
-        drive: after,
-        said: said_importing(answer),
-    }
+    ))
 }

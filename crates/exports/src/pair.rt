@@ -4,18 +4,12 @@ ghost use mathlib.Core.Path.{_≡_};
 ghost use Rattle.orders.specs.Results.{addOrder, removeOrder};
 ghost use Rattle.batch.specs.Promises.{Batches};
 ghost use Rattle.drives.specs.Results as results;
-ghost use Rattle.exports.specs.Replies.{reply};
+ghost use Rattle.replies.specs.Replies.{reply};
 ghost use Rattle.exports.specs.Promises.{ServesHere};
-use crate::Reply;
-use crate::Said;
-use crate::said_ordering;
-use crate::said_refreshing;
-use crate::said_report;
-use crate::said_rounding;
-use crate::said_saving;
-use crate::said_serving;
 use batch::Entry;
 use calls::Drive;
+use replies::Reply;
+use replies::Said;
 
 // Admits a stream, at once where both drives are at the start of a round and no order waits, or by an order that waits.
 #[no_mangle]
@@ -29,13 +23,7 @@ pub extern "C" fn mandrozsi_pair_add(
 ) -> Reply
     ensures { λ r. ⌜ (r ≡ reply own (results.changedAnswer own other (now (board .entry)) (now (list .entry)) (addOrder name weight))) × (now (board .exit) ≡ results.changedBoard own other (now (board .entry)) (now (list .entry)) (addOrder name weight)) × (now (list .exit) ≡ results.changedList own other (now (board .entry)) (now (list .entry)) (addOrder name weight)) ⌝ }
 {
-    let added = drives::add(own, other, board, list, name, weight);
-    let after = added.drive;
-    let answer = added.answer;
-    Reply {
-        drive: after,
-        said: said_ordering(answer),
-    }
+    replies::of_ordered(drives::add(own, other, board, list, name, weight))
 }
 
 // Removes a stream, likewise.
@@ -49,13 +37,7 @@ pub extern "C" fn mandrozsi_pair_remove(
 ) -> Reply
     ensures { λ r. ⌜ (r ≡ reply own (results.changedAnswer own other (now (board .entry)) (now (list .entry)) (removeOrder name))) × (now (board .exit) ≡ results.changedBoard own other (now (board .entry)) (now (list .entry)) (removeOrder name)) × (now (list .exit) ≡ results.changedList own other (now (board .entry)) (now (list .entry)) (removeOrder name)) ⌝ }
 {
-    let removed = drives::remove(own, other, board, list, name);
-    let after = removed.drive;
-    let answer = removed.answer;
-    Reply {
-        drive: after,
-        said: said_ordering(answer),
-    }
+    replies::of_ordered(drives::remove(own, other, board, list, name))
 }
 
 // Serves a slot of the own drive, whose record moves on. Where both drives are at the start of a round the orders that wait are carried out first.
@@ -68,13 +50,7 @@ pub extern "C" fn mandrozsi_pair_slot(
 ) -> Reply
     ensures { λ r. ⌜ (r ≡ reply (results.served own other (now (board .entry)) (now (list .entry)) .drive) (results.servedAnswer own other (now (board .entry)) (now (list .entry)))) × (now (board .exit) ≡ results.servedBoard own other (now (board .entry)) (now (list .entry))) × (now (list .exit) ≡ results.servedList own other (now (board .entry)) (now (list .entry))) ⌝ }
 {
-    let served = drives::slot(own, other, board, list);
-    let after = served.drive;
-    let answer = served.answer;
-    Reply {
-        drive: after,
-        said: said_serving(answer),
-    }
+    replies::of_served(drives::slot(own, other, board, list))
 }
 
 // Writes the names of a full round to the start of the output.
@@ -87,13 +63,7 @@ pub extern "C" fn mandrozsi_pair_round(
 ) -> Reply
     ensures { λ r. ⌜ (r ≡ reply own (results.roundedAnswer own other (now (board .entry)) (now (output .entry)))) × (now (output .exit) ≡ results.roundedOutput own other (now (board .entry)) (now (output .entry))) ⌝ }
 {
-    let rounded = drives::round(own, other, board, output);
-    let after = rounded.drive;
-    let answer = rounded.answer;
-    Reply {
-        drive: after,
-        said: said_rounding(answer),
-    }
+    replies::of_rounded(drives::round(own, other, board, output))
 }
 
 // Reports on a stream: weight, number of pieces, spacing.
@@ -101,13 +71,7 @@ pub extern "C" fn mandrozsi_pair_round(
 pub extern "C" fn mandrozsi_pair_report(own: Drive, other: Drive, board: &[u16], name: u16) -> Reply
     ensures { λ r. ⌜ r ≡ reply own (results.reportedAnswer own other (now (board .entry)) name) ⌝ }
 {
-    let reported = drives::report(own, other, board, name);
-    let after = reported.drive;
-    let answer = reported.answer;
-    Reply {
-        drive: after,
-        said: said_report(answer),
-    }
+    replies::of_reported(drives::report(own, other, board, name))
 }
 
 // Saves a board, where both drives are at the start of a round.
@@ -120,13 +84,7 @@ pub extern "C" fn mandrozsi_pair_save(
 ) -> Reply
     ensures { λ r. ⌜ (r ≡ reply own (results.savedAnswer own other (now (board .entry)) (now (output .entry)))) × (now (output .exit) ≡ results.savedOutput own other (now (board .entry)) (now (output .entry))) ⌝ }
 {
-    let saved = drives::save(own, other, board, output);
-    let after = saved.drive;
-    let answer = saved.answer;
-    Reply {
-        drive: after,
-        said: said_saving(answer),
-    }
+    replies::of_saved(drives::save(own, other, board, output))
 }
 
 // Lays the board out afresh, where both drives are at the start of a round.
@@ -134,13 +92,7 @@ pub extern "C" fn mandrozsi_pair_save(
 pub extern "C" fn mandrozsi_pair_fresh(own: Drive, other: Drive, board: &mut [u16]) -> Reply
     ensures { λ r. ⌜ (r ≡ reply own (results.refreshedAnswer own other (now (board .entry)))) × (now (board .exit) ≡ results.refreshedBoard own other (now (board .entry))) ⌝ }
 {
-    let refreshed = drives::fresh(own, other, board);
-    let after = refreshed.drive;
-    let answer = refreshed.answer;
-    Reply {
-        drive: after,
-        said: said_refreshing(answer),
-    }
+    replies::of_refreshed(drives::fresh(own, other, board))
 }
 
 // Carries out a table of changes from first to last, each as the single call would, and writes its answer beside it. A refused entry does not stop the rest.

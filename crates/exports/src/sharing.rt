@@ -4,35 +4,10 @@ ghost use mathlib.Core.Path.{_≡_};
 ghost use Rattle.orders.specs.Results.{addOrder, removeOrder};
 ghost use Rattle.shares.specs.States.{lent};
 ghost use Rattle.shares.specs.Results.{overOrder};
-ghost use Rattle.share_boards.specs.Starting as starting;
-ghost use Rattle.exports.specs.Replies.{saidOf};
 ghost use Rattle.exports.specs.Serving.{ShareServes};
 ghost use Rattle.exports.specs.Tables as promises;
-use crate::Reply;
-use crate::Said;
-use crate::said_done;
-use crate::said_loading;
-use crate::said_opening;
-use crate::said_ordering;
-use crate::said_refreshing;
-use crate::said_refused;
-use crate::said_report;
-use crate::said_rounding;
-use crate::said_serving;
-use crate::said_told;
 use calls::Drive;
-use share_boards::starting::ShareSaving;
-
-// The answer of save.
-fn said_share_saving(answer: ShareSaving) -> Said
-    ensures { λ r. ⌜ r ≡ saidOf (starting.savingAnswer answer) ⌝ }
-{
-    match answer {
-        ShareSaving::Done(bytes) => said_done(bytes as u64, 0, 0, 0),
-        ShareSaving::Kind => said_told(17, 0),
-        ShareSaving::Refused(why) => said_refused(why, 0),
-    }
-}
+use replies::Reply;
 
 // Opens a board, clears the tables, and empties the list.
 #[no_mangle]
@@ -46,13 +21,7 @@ pub extern "C" fn mandrozsi_share_open(
 ) -> Reply
     ensures { λ r. ⌜ promises.ShareOpens capacity (lent (now (board .entry)) (now (rates .entry)) (now (owed .entry)) (now («owed_other» .entry))) (now (list .entry)) r (lent (now (board .exit)) (now (rates .exit)) (now (owed .exit)) (now («owed_other» .exit))) (now (list .exit)) ⌝ }
 {
-    let opened = share_boards::keeping::open(capacity, board, list, rates, owed, owed_other);
-    let after = opened.drive;
-    let answer = opened.answer;
-    Reply {
-        drive: after,
-        said: said_opening(answer),
-    }
+    replies::of_opened(share_boards::keeping::open(capacity, board, list, rates, owed, owed_other))
 }
 
 // Reads a sheet, clears the tables, and empties the list.
@@ -67,13 +36,7 @@ pub extern "C" fn mandrozsi_share_read(
 ) -> Reply
     ensures { λ r. ⌜ promises.ShareLoads (now (sheet .entry)) (lent (now (board .entry)) (now (rates .entry)) (now (owed .entry)) (now («owed_other» .entry))) (now (list .entry)) r (lent (now (board .exit)) (now (rates .exit)) (now (owed .exit)) (now («owed_other» .exit))) (now (list .exit)) ⌝ }
 {
-    let loaded = share_boards::keeping::read(sheet, board, list, rates, owed, owed_other);
-    let after = loaded.drive;
-    let answer = loaded.answer;
-    Reply {
-        drive: after,
-        said: said_loading(answer),
-    }
+    replies::of_loaded(share_boards::keeping::read(sheet, board, list, rates, owed, owed_other))
 }
 
 // Admits a stream, at once or by an order that waits.
@@ -91,7 +54,7 @@ pub extern "C" fn mandrozsi_share_add(
 ) -> Reply
     ensures { λ r. ⌜ promises.ShareOrders own other (lent (now (board .entry)) (now (rates .entry)) (now (owed .entry)) (now («owed_other» .entry))) (now (list .entry)) (addOrder name weight) r (lent (now (board .exit)) (now (rates .exit)) (now (owed .exit)) (now («owed_other» .exit))) (now (list .exit)) ⌝ }
 {
-    let added = shares::add(
+    replies::of_ordered(shares::add(
         own,
         other,
         board,
@@ -101,13 +64,7 @@ pub extern "C" fn mandrozsi_share_add(
         owed_other,
         name,
         weight,
-    );
-    let after = added.drive;
-    let answer = added.answer;
-    Reply {
-        drive: after,
-        said: said_ordering(answer),
-    }
+    ))
 }
 
 // Admits an over-allocated stream, at once or by an order that waits.
@@ -125,7 +82,7 @@ pub extern "C" fn mandrozsi_share_over(
 ) -> Reply
     ensures { λ r. ⌜ promises.ShareOrders own other (lent (now (board .entry)) (now (rates .entry)) (now (owed .entry)) (now («owed_other» .entry))) (now (list .entry)) (overOrder name weight) r (lent (now (board .exit)) (now (rates .exit)) (now (owed .exit)) (now («owed_other» .exit))) (now (list .exit)) ⌝ }
 {
-    let added = shares::over(
+    replies::of_ordered(shares::over(
         own,
         other,
         board,
@@ -135,13 +92,7 @@ pub extern "C" fn mandrozsi_share_over(
         owed_other,
         name,
         weight,
-    );
-    let after = added.drive;
-    let answer = added.answer;
-    Reply {
-        drive: after,
-        said: said_ordering(answer),
-    }
+    ))
 }
 
 // Removes a stream, at once or by an order that waits; the tables follow the streams that move.
@@ -158,13 +109,7 @@ pub extern "C" fn mandrozsi_share_remove(
 ) -> Reply
     ensures { λ r. ⌜ promises.ShareOrders own other (lent (now (board .entry)) (now (rates .entry)) (now (owed .entry)) (now («owed_other» .entry))) (now (list .entry)) (removeOrder name) r (lent (now (board .exit)) (now (rates .exit)) (now (owed .exit)) (now («owed_other» .exit))) (now (list .exit)) ⌝ }
 {
-    let removed = shares::remove(own, other, board, list, rates, owed, owed_other, name);
-    let after = removed.drive;
-    let answer = removed.answer;
-    Reply {
-        drive: after,
-        said: said_ordering(answer),
-    }
+    replies::of_ordered(shares::remove(own, other, board, list, rates, owed, owed_other, name))
 }
 
 // Serves a slot of the own drive, whose record moves on: an over-allocated stream takes its turn by the deficits of that drive. Where both drives are at the start
@@ -181,13 +126,7 @@ pub extern "C" fn mandrozsi_share_slot(
 ) -> Reply
     ensures { λ r. ⌜ ShareServes own other (lent (now (board .entry)) (now (rates .entry)) (now (owed .entry)) (now («owed_other» .entry))) (now (list .entry)) r (lent (now (board .exit)) (now (rates .exit)) (now (owed .exit)) (now («owed_other» .exit))) (now (list .exit)) ⌝ }
 {
-    let served = shares::slot(own, other, board, list, rates, owed, owed_other);
-    let after = served.drive;
-    let answer = served.answer;
-    Reply {
-        drive: after,
-        said: said_serving(answer),
-    }
+    replies::of_served(shares::slot(own, other, board, list, rates, owed, owed_other))
 }
 
 // Writes the names of a full round, every deficit taken as 0.
@@ -203,13 +142,15 @@ pub extern "C" fn mandrozsi_share_round(
 ) -> Reply
     ensures { λ r. ⌜ promises.ShareRounds own other (lent (now (board .entry)) (now (rates .entry)) (now (owed .entry)) (now («owed_other» .entry))) (now (output .entry)) r (now (output .exit)) ⌝ }
 {
-    let rounded = share_boards::looking::round(own, other, board, rates, owed, owed_other, output);
-    let after = rounded.drive;
-    let answer = rounded.answer;
-    Reply {
-        drive: after,
-        said: said_rounding(answer),
-    }
+    replies::of_rounded(share_boards::looking::round(
+        own,
+        other,
+        board,
+        rates,
+        owed,
+        owed_other,
+        output,
+    ))
 }
 
 // Reports on a stream: r of one that is over-allocated.
@@ -225,13 +166,15 @@ pub extern "C" fn mandrozsi_share_report(
 ) -> Reply
     ensures { λ r. ⌜ promises.ShareReports own other (lent (now (board .entry)) (now (rates .entry)) (now (owed .entry)) (now («owed_other» .entry))) name r ⌝ }
 {
-    let reported = share_boards::looking::report(own, other, board, rates, owed, owed_other, name);
-    let after = reported.drive;
-    let answer = reported.answer;
-    Reply {
-        drive: after,
-        said: said_report(answer),
-    }
+    replies::of_reported(share_boards::looking::report(
+        own,
+        other,
+        board,
+        rates,
+        owed,
+        owed_other,
+        name,
+    ))
 }
 
 // Saves a board that holds no over-allocated stream.
@@ -247,13 +190,15 @@ pub extern "C" fn mandrozsi_share_save(
 ) -> Reply
     ensures { λ r. ⌜ promises.ShareSaves own other (lent (now (board .entry)) (now (rates .entry)) (now (owed .entry)) (now («owed_other» .entry))) (now (output .entry)) r (now (output .exit)) ⌝ }
 {
-    let saved = share_boards::starting::save(own, other, board, rates, owed, owed_other, output);
-    let after = saved.drive;
-    let answer = saved.answer;
-    Reply {
-        drive: after,
-        said: said_share_saving(answer),
-    }
+    replies::of_share_saved(share_boards::starting::save(
+        own,
+        other,
+        board,
+        rates,
+        owed,
+        owed_other,
+        output,
+    ))
 }
 
 // Lays the board out afresh; the tables follow.
@@ -268,13 +213,7 @@ pub extern "C" fn mandrozsi_share_fresh(
 ) -> Reply
     ensures { λ r. ⌜ promises.ShareRefreshes own other (lent (now (board .entry)) (now (rates .entry)) (now (owed .entry)) (now («owed_other» .entry))) r (lent (now (board .exit)) (now (rates .exit)) (now (owed .exit)) (now («owed_other» .exit))) ⌝ }
 {
-    let refreshed = share_boards::starting::fresh(own, other, board, rates, owed, owed_other);
-    let after = refreshed.drive;
-    let answer = refreshed.answer;
-    Reply {
-        drive: after,
-        said: said_refreshing(answer),
-    }
+    replies::of_refreshed(share_boards::starting::fresh(own, other, board, rates, owed, owed_other))
 }
 
 // Reads a sheet of pieces, at the position that it has, clears the tables, and empties the list.
@@ -289,13 +228,14 @@ pub extern "C" fn mandrozsi_share_read_pieces(
 ) -> Reply
     ensures { λ r. ⌜ promises.ShareLoadsPieces (now (sheet .entry)) (lent (now (board .entry)) (now (rates .entry)) (now (owed .entry)) (now («owed_other» .entry))) (now (list .entry)) r (lent (now (board .exit)) (now (rates .exit)) (now (owed .exit)) (now («owed_other» .exit))) (now (list .exit)) ⌝ }
 {
-    let loaded = share_boards::keeping::read_pieces(sheet, board, list, rates, owed, owed_other);
-    let after = loaded.drive;
-    let answer = loaded.answer;
-    Reply {
-        drive: after,
-        said: said_loading(answer),
-    }
+    replies::of_loaded(share_boards::keeping::read_pieces(
+        sheet,
+        board,
+        list,
+        rates,
+        owed,
+        owed_other,
+    ))
 }
 
 // Saves a board that holds no over-allocated stream by its pieces, where both drives are at one position.
@@ -311,7 +251,7 @@ pub extern "C" fn mandrozsi_share_save_pieces(
 ) -> Reply
     ensures { λ r. ⌜ promises.ShareSavesPieces own other (lent (now (board .entry)) (now (rates .entry)) (now (owed .entry)) (now («owed_other» .entry))) (now (output .entry)) r (now (output .exit)) ⌝ }
 {
-    let saved = share_boards::starting::save_pieces(
+    replies::of_share_saved(share_boards::starting::save_pieces(
         own,
         other,
         board,
@@ -319,11 +259,5 @@ pub extern "C" fn mandrozsi_share_save_pieces(
         owed,
         owed_other,
         output,
-    );
-    let after = saved.drive;
-    let answer = saved.answer;
-    Reply {
-        drive: after,
-        said: said_share_saving(answer),
-    }
+    ))
 }

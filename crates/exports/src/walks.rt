@@ -3,10 +3,10 @@
 ghost use Rattle.shares.specs.States.{lent};
 ghost use Rattle.share_batch.specs.Promises.{Batches};
 ghost use Rattle.exports.specs.Serving.{ShareServesHere};
-use crate::Said;
 use crate::sharing::mandrozsi_share_slot;
 use batch::Entry;
 use calls::Drive;
+use replies::Said;
 
 // Carries out a table of changes from first to last, each as the single call would, and writes its answer beside it. A refused entry does not stop the rest.
 #[no_mangle]

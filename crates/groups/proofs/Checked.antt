@@ -1,16 +1,16 @@
 -- What is known of an import whose checks find nothing. Assumes nothing.
-use mathlib.Core.Path.{_≡_, refl, sym, ap, subst, _∙_}
+use mathlib.Core.Path.{_≡_, refl, sym, ap, _∙_}
 use mathlib.Core.Bool.{Bool, true, false, _||_, cond}
 use mathlib.Core.List.{List, _++_}
-use Prim.Native.Nat.{ℕ, zero, suc, _+_, _^_, _≤_, _<_}
+use Prim.Native.Nat.{ℕ, zero, _+_, _^_, _≤_, _<_}
 use native.Mathlib.Omega.{arith}
 use lib.Count.{ones}
 use lib.Dec.{eqb, ltb}
 use lib.ListN.{length, drop}
 use borrow.Author.Tests.{eqb-false, ltb-false}
+use Rattle.general.proofs.Laws.{neither}
 use Rattle.pieces.specs.Fresh.{laid, idle, Placeables}
 use Rattle.pieces.proofs.Laws.{idle-placeable}
-use Rattle.calls.specs.Records.{driveAt}
 use Rattle.calls.specs.Refusals.{applies, openCheck, firstOf}
 use Rattle.calls.specs.declared.Refusal.the-variants.{Capacity, Short, Output}
 use Rattle.calls.specs.declared.Check.the-variants as check
@@ -27,7 +27,7 @@ use Rattle.groups.specs.Promises.{ImportsBy, Vouches}
 use Rattle.groups.specs.declared.Importing.the-variants as importing
 use Rattle.groups.specs.declared.Finding.{Finding}
 use Rattle.groups.specs.declared.Finding.the-variants.{Clear, Power, Group, Refused}
-use Rattle.groups.proofs.Faults.{or-none, faultless}
+use Rattle.groups.proofs.Faults.{faultless}
 use Rattle.groups.proofs.Pointers.{place-below}
 use Rattle.groups.proofs.Adding.{streams-apart, streams-fit}
 
@@ -64,7 +64,7 @@ passed C S N short m e =
     let c = past (Refused Short) (λ q. omega arith) (b .1) in
     let d = past Group (λ q. omega arith) (c .1) in
     let f = past (Refused Output) (λ q. omega arith) (d .1) in
-    record { capacity = or-none (eqb C 0) (ltb 4095 C) (a .0); power = b .0; long = c .0; group = d .0; output = f .0 }
+    record { capacity = neither (eqb C 0) (ltb 4095 C) (a .0); power = b .0; long = c .0; group = d .0; output = f .0 }
 
 -- what the checks find, by what was found of the lengths
 pub found-is : (C : ℕ) (S N : List ℕ) (m : ℕ) (f : Finding) (short asked : Bool) → f ≡ finding C S N short m → short ≡ asked → f ≡ finding C S N asked m
@@ -73,15 +73,15 @@ found-is C S N m f short asked e q = e ∙ ap (λ (b : Bool). finding C S N b m)
 -- with tables that are long enough too
 module _ (C : ℕ) (S N B T D D′ L O : List ℕ) (e : findsShares C S N B T D D′ L O ≡ Clear) where
   lent : (lentShort C B (length L) ≡ false) × ((ltb (length T) C || (ltb (length D) C || ltb (length D′) C)) ≡ false)
-  lent = or-none (lentShort C B (length L)) (ltb (length T) C || (ltb (length D) C || ltb (length D′) C)) (passed C S N (sharesShort C B (length L) (length T) (length D) (length D′)) (length O) e .long)
+  lent = neither (lentShort C B (length L)) (ltb (length T) C || (ltb (length D) C || ltb (length D′) C)) (passed C S N (sharesShort C B (length L) (length T) (length D) (length D′)) (length O) e .long)
 
   pub shares-plain : finds C S N B L O ≡ Clear
   shares-plain = rw (lent .0) (rw (passed C S N (sharesShort C B (length L) (length T) (length D) (length D′)) (length O) e .long) at e)
 
   pub shares-long : (C ≤ length T) × (C ≤ length D) × (C ≤ length D′) × (C ≤ 4095)
   shares-long =
-      let a = or-none (ltb (length T) C) (ltb (length D) C || ltb (length D′) C) (lent .1) in
-      let b = or-none (ltb (length D) C) (ltb (length D′) C) (a .1) in
+      let a = neither (ltb (length T) C) (ltb (length D) C || ltb (length D′) C) (lent .1) in
+      let b = neither (ltb (length D) C) (ltb (length D′) C) (a .1) in
       let p = passed C S N (sharesShort C B (length L) (length T) (length D) (length D′)) (length O) e in
       (ltb-false (length T) C (a .0), ltb-false (length D) C (b .0), ltb-false (length D′) C (b .1), ltb-false 4095 C (p .capacity .1))
 
@@ -89,7 +89,7 @@ pub importable : (C : ℕ) (S N B : List ℕ) (n m : ℕ) → finding C S N (len
 unfolding applies openCheck firstOf
 importable C S N B n m e =
     let p = passed C S N (lentShort C B n) m e in
-    let lent = or-none (ltb (length B) C) (tooShort n) (p .long) in
+    let lent = neither (ltb (length B) C) (tooShort n) (p .long) in
     let zeroless = eqb-false C 0 (p .capacity .0) in
     let few : C ≤ 4095 = ltb-false 4095 C (p .capacity .1) in
     let some : zero < C = omega arith in

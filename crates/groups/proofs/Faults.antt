@@ -1,21 +1,18 @@
 -- What 18 looks for: a search from number to number, and that a table in which it finds nothing is just one without a fault.
 -- Assumes nothing.
-use mathlib.Core.Path.{_≡_, refl, sym, ap, _∙_}
-use mathlib.Core.Bool.{Bool, true, false, _||_, not}
+use mathlib.Core.Path.{_≡_, refl, sym, _∙_}
+use mathlib.Core.Bool.{Bool, true, false, not}
 use mathlib.Core.List.{List}
-use Prim.Native.Nat.{ℕ, zero, suc, _+_, _-_, _*_, _/_, _%_, _^_, _≤_, _<_}
-use native.Mathlib.Nat.{div-add-mod', mul-mod-left, zero-add}
+use Prim.Native.Nat.{ℕ, zero, suc, _+_, _-_, _*_, _%_, _^_, _≤_, _<_}
+use native.Mathlib.Nat.{div-add-mod', mul-mod-left}
 use native.Mathlib.Numerals.{add-one}
 use native.Mathlib.Decide.{decLt, ℕ-discrete}
 use native.Mathlib.Omega.{arith}
 use lib.Dec.{eqb, ltb}
 use lib.ListN.{length, getD}
 use borrow.Author.Tests.{eq-eqb, ne-eqb, eqb-true, eqb-false, ltb-false, lt-ltb, le-ltb, not-false}
+use Rattle.general.proofs.Laws.{neither}
 use Rattle.groups.specs.Table.{rate, count, offset, badList, anyFrom, badName, faulty, Table, Rising}
-
-pub or-none : (a b : Bool) → (a || b) ≡ false → (a ≡ false) × (b ≡ false)
-or-none true b e = let z : _≡_ {A = ℕ} 0 1 = cc in absurd (omega arith)
-or-none false b e = (refl, e)
 
 -- ---- a search among the numbers from i on
 
@@ -37,8 +34,8 @@ module _ (f : ℕ → Bool) where
   unfolding anyFrom
   any-none zero i e j a b = absurd (omega arith)
   any-none (suc n) i e j a b = elim (ℕ-discrete j i) [
-    | yes q ↦ rw q (or-none (f i) (anyFrom f (suc i) n) e .0)
-    | no q ↦ any-none n (suc i) (or-none (f i) (anyFrom f (suc i) n) e .1) j (omega arith) (omega arith)
+    | yes q ↦ rw q (neither (f i) (anyFrom f (suc i) n) e .0)
+    | no q ↦ any-none n (suc i) (neither (f i) (anyFrom f (suc i) n) e .1) j (omega arith) (omega arith)
   ]
 
   pub none-any : (n i : ℕ) → ((j : ℕ) → i ≤ j → j < i + n → f j ≡ false) → anyFrom f i n ≡ false
@@ -50,13 +47,13 @@ module _ (f : ℕ → Bool) where
 
 -- a list that agrees with the starts
 list-up : (k : ℕ) (S : List ℕ) (i : ℕ) → badList k S i ≡ false → getD S i 0 ≤ getD S (suc i) 0
-list-up k S i e = ltb-false (getD S (suc i) 0) (getD S i 0) (or-none _ _ e .0)
+list-up k S i e = ltb-false (getD S (suc i) 0) (getD S i 0) (neither _ _ e .0)
 
 list-whole : (k : ℕ) (S : List ℕ) (i : ℕ) → badList k S i ≡ false → getD S (suc i) 0 ≡ getD S i 0 + count k S i * rate k i
 unfolding count
 list-whole k S i e =
     let d = getD S (suc i) 0 - getD S i 0 in
-    let z : d % rate k i ≡ 0 = eqb-true (d % rate k i) 0 (not-false (eqb (d % rate k i) 0) (or-none (ltb (getD S (suc i) 0) (getD S i 0)) (not (eqb (d % rate k i) 0)) e .1)) in
+    let z : d % rate k i ≡ 0 = eqb-true (d % rate k i) 0 (not-false (eqb (d % rate k i) 0) (neither (ltb (getD S (suc i) 0) (getD S i 0)) (not (eqb (d % rate k i) 0)) e .1)) in
     omega (arith, list-up k S i e, div-add-mod' d (rate k i))
 
 -- what `bad_list` answers by its tests
@@ -136,11 +133,11 @@ record Parts (k : ℕ) (S N : List ℕ) : Type 0 where
 parts : (k : ℕ) (S N : List ℕ) → faulty k S N ≡ false → Parts k S N
 unfolding faulty
 parts k S N e =
-    let a = or-none _ _ e in
-    let b = or-none _ _ (a .1) in
-    let c = or-none _ _ (b .1) in
-    let d = or-none _ _ (c .1) in
-    let f = or-none _ _ (d .1) in
+    let a = neither _ _ e in
+    let b = neither _ _ (a .1) in
+    let c = neither _ _ (b .1) in
+    let d = neither _ _ (c .1) in
+    let f = neither _ _ (d .1) in
     record { size = a .0; first = b .0; lists = c .0; top = d .0; held = f .0; names = f .1 }
 
 -- A table that is not refused is one without a fault,
@@ -148,7 +145,7 @@ pub faultless : (k : ℕ) (S N : List ℕ) → faulty k S N ≡ false → Table 
 faultless k S N e =
     let p = parts k S N e in
     let name : (l : ℕ) → l < length N → (eqb (getD N l 0) 0 ≡ false) × (anyFrom (λ j. eqb (getD N j 0) (getD N l 0)) 0 l ≡ false) = λ l h.
-    or-none (eqb (getD N l 0) 0) (anyFrom (λ j. eqb (getD N j 0) (getD N l 0)) 0 l) (any-none (badName N) (length N) 0 (p .names) l (omega arith) (omega arith)) in
+    neither (eqb (getD N l 0) 0) (anyFrom (λ j. eqb (getD N j 0) (getD N l 0)) 0 l) (any-none (badName N) (length N) 0 (p .names) l (omega arith) (omega arith)) in
     let other : (j l : ℕ) → j < l → l < length N → getD N j 0 ≡ getD N l 0 → ⊥ = λ j l a b.
     eqb-false (getD N j 0) (getD N l 0) (any-none (λ i. eqb (getD N i 0) (getD N l 0)) l 0 (name l b .1) j (omega arith) (omega arith)) in
     record {

@@ -1,28 +1,27 @@
 -- The laws of an import that upper crates cite: the round of a table serves each stream once in each of its windows; a table is refused just for its faults; every
 -- stream is admitted, with its rate as weight; no second answer fits, and a refusal leaves everything as it was. Assumes nothing.
-use mathlib.Core.Path.{_≡_, refl, sym, ap, subst, _∙_}
-use mathlib.Core.Bool.{Bool, true, _||_}
+use mathlib.Core.Path.{_≡_, refl, sym, ap, _∙_}
+use mathlib.Core.Bool.{Bool, true}
 use mathlib.Core.List.{List, [], _∷_}
-use Prim.Native.Nat.{ℕ, zero, suc, _+_, _-_, _*_, _^_, _≤_, _<_}
-use native.Mathlib.Omega.{arith}
+use Prim.Native.Nat.{ℕ, _+_, _<_}
 use lib.Count.{ones}
 use lib.Dec.{ltb}
 use lib.ListN.{length, getD}
+use Rattle.general.proofs.Laws.{unique, by-bool}
 use Rattle.pieces.specs.Board.{good, weight}
-use Rattle.pieces.specs.Fresh.{laid, idle, Placeables}
-use Rattle.pieces.proofs.Laws.{idle-placeable, idle-laid}
+use Rattle.pieces.specs.Fresh.{laid, idle}
+use Rattle.pieces.proofs.Laws.{idle-laid}
 use Rattle.calls.specs.Answers.{Answer}
 use Rattle.calls.specs.Records.{driveAt}
 use Rattle.calls.specs.Refusals.{zeroOr, applies, askedOpen, askedOutput}
-use Rattle.calls.specs.Results.{idleBoard}
 use Rattle.calls.specs.declared.Refusal.the-variants.{Capacity, Output}
-use Rattle.calls.proofs.Laws.{by-bool, unique, Refuses, refuses, idle-opened}
+use Rattle.calls.proofs.Laws.{Refuses, refuses, idle-opened}
 use Rattle.tables.specs.Sharing.{fits}
 use Rattle.tables.specs.Settling.{clearedTable}
 use Rattle.tables.proofs.Laws.{cleared-fits}
-use Rattle.demands.proofs.Laws.{Openable, opens, reach, log, stateAt, addsOf, AllDone, opened-adds}
+use Rattle.demands.proofs.Laws.{opens, reach, log, stateAt, addsOf, AllDone, opened-adds}
 use Rattle.tree.specs.Marks.{levels}
-use Rattle.groups.specs.Table.{rate, count, offset, tableStreams, faulty, Table}
+use Rattle.groups.specs.Table.{rate, count, offset, tableStreams, faulty}
 use Rattle.groups.specs.Results.{lentShort, sharesShort, finding, finds, findsShares, numberBy, ifMade, importMay, importingAnswer, importedAnswer, madeBoard}
 use Rattle.groups.specs.Promises.{ImportsBy, Imports, ImportsShares}
 use Rattle.groups.specs.declared.Imported.{Imported}

@@ -1,21 +1,20 @@
 -- The lists of a group table: where their ranges start, which of them a value selects, and which name. Assumes nothing.
-use mathlib.Core.Path.{_≡_, refl, sym, ap, ap₂, _∙_, subst}
-use mathlib.Core.Bool.{Bool, true, false, _&&_, cond}
-use mathlib.Core.List.{List, [], _∷_}
-use Prim.Native.Nat.{ℕ, zero, suc, _+_, _-_, _*_, _/_, _%_, _^_, _≤_, _<_}
+use mathlib.Core.Path.{_≡_, refl, sym, ap, ap₂, _∙_}
+use mathlib.Core.Bool.{Bool, true, false, _&&_}
+use mathlib.Core.List.{List}
+use Prim.Native.Nat.{ℕ, zero, suc, _+_, _-_, _*_, _/_, _^_, _≤_, _<_}
 use native.Mathlib.Nat.{mul-le-mul-right, le-of-mul-le-mul-right}
 use native.Mathlib.Decide.{decLt, ℕ-discrete}
 use native.Mathlib.Omega.{arith}
 use lib.Dec.{eqb, leb, ltb}
-use lib.ListN.{length, getD, set, length-set}
+use lib.ListN.{getD}
 use lib.Pow.{pow-pos, pow-add}
-use lib.Seq.{getD-set-same, getD-set-other}
-use borrow.Author.Tests.{eq-eqb, ne-eqb, eqb-true, lt-ltb, le-ltb, ltb-true, le-leb, lt-leb, leb-true}
+use borrow.Author.Tests.{eq-eqb, ne-eqb, lt-ltb, le-ltb, le-leb, lt-leb}
 use Rattle.sequences.specs.Sequences.{rb}
 use Rattle.sequences.specs.Serving.{countIn}
 use Rattle.sequences.proofs.Laws.{rb-lt, rb-split, count-same}
-use Rattle.groups.specs.Table.{rate, count, offset, Table}
-use Rattle.groups.specs.Rounds.{listOf, next, slotName, moved}
+use Rattle.groups.specs.Table.{rate, count, Table}
+use Rattle.groups.specs.Rounds.{listOf}
 use Rattle.groups.proofs.Windows.{reversed-count, range-count}
 
 -- ---- the search

@@ -1,12 +1,10 @@
 -- What the code of the round goes by. Assumes nothing.
-use mathlib.Core.Path.{_≡_, refl, sym, ap, ap₂, _∙_, subst}
-use mathlib.Core.Bool.{cond}
+use mathlib.Core.Path.{_≡_, refl, sym, ap, _∙_}
 use mathlib.Core.List.{List, [], _∷_, _++_, append-assoc}
 use Prim.Native.Nat.{ℕ, zero, suc, _+_, _-_, _*_, _/_, _%_, _^_, _≤_, _<_}
-use native.Mathlib.Nat.{pow-suc, mul-le-mul-right, zero-add}
+use native.Mathlib.Nat.{pow-suc, mul-le-mul-right}
 use native.Mathlib.Numerals.{add-one}
 use native.Mathlib.Omega.{arith}
-use lib.Dec.{ltb}
 use lib.ListN.{length, getD, set, drop, take, replicate}
 use lib.Pow.{pow-pos, pow-mono}
 use lib.Seq.{set-out, set-at, drop-cons}
@@ -14,7 +12,7 @@ use borrow.Author.Tests.{lt-ltb, le-ltb}
 use Rattle.sequences.specs.Sequences.{rb}
 use Rattle.sequences.proofs.Laws.{rb-lt}
 use Rattle.groups.specs.Table.{rate, count, offset, Table}
-use Rattle.groups.specs.Rounds.{listOf, next, slotName, moved, namesFrom, pointersAfter, roundOf, Pointing}
+use Rattle.groups.specs.Rounds.{listOf, next, slotName, moved, namesFrom, pointersAfter, roundOf}
 use Rattle.groups.proofs.Lists.{starts-mono}
 use Rattle.groups.proofs.Pointers.{next-within, met-some, offset-next, offset-le}
 use Rattle.groups.proofs.Rounding.{names-append, after-append, names-length}

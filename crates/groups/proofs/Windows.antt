@@ -1,19 +1,19 @@
 -- Counting in a window of slots: reversal of binary digits goes through every value once in each aligned window, and a pointer that moves at some of the
 -- slots goes round once where there are as many of these as streams. Assumes nothing.
-use mathlib.Core.Path.{_≡_, refl, sym, ap, ap₂, _∙_, subst}
+use mathlib.Core.Path.{_≡_, refl, sym, ap, ap₂, _∙_}
 use mathlib.Core.Bool.{Bool, true, false, _&&_, cond}
 use Prim.Native.Nat.{ℕ, zero, suc, _+_, _-_, _*_, _/_, _%_, _^_, _≤_, _<_}
-use native.Mathlib.Nat.{add-zero, zero-add, pow-suc}
+use native.Mathlib.Nat.{pow-suc}
 use native.Mathlib.Decide.{decLt, ℕ-discrete}
 use native.Mathlib.Omega.{arith}
 use lib.Dec.{eqb, leb, ltb}
-use lib.Pow.{pow-pos}
 use borrow.Author.Tests.{eq-eqb, ne-eqb, lt-ltb, le-ltb, le-leb, lt-leb}
+use Rattle.general.specs.Tests.{one}
+use Rattle.general.proofs.Laws.{by-bool}
 use Rattle.groups.specs.Rounds.{next}
 use Rattle.sequences.specs.Sequences.{rb}
-use Rattle.sequences.specs.Serving.{one, countIn}
+use Rattle.sequences.specs.Serving.{countIn}
 use Rattle.sequences.proofs.Laws.{count-same, count-append}
-use Rattle.calls.proofs.Laws.{by-bool}
 
 -- ---- counting
 

@@ -8,7 +8,7 @@ use native.Mathlib.Numerals.{add-one}
 use lib.Dec.{eqb}
 use lib.ListN.{length, take, drop, length-drop}
 use lib.Seq.{take-all}
-use Rattle.lines.specs.Grammar.{placeOf, parted, words, same, number, ticket, fetchWord, alone, withOne, withTicket, withTwo, command, parsed}
+use Rattle.lines.specs.Grammar.{placeOf, parted, words, same, shortNumber, ticket, fetchWord, alone, withOne, withTicket, withTwo, command, parsed}
 use Rattle.lines.specs.declared.Command.the-variants.{Unknown}
 use Rattle.lines.proofs.Cuts.{words-one, words-more}
 
@@ -27,7 +27,7 @@ command-four w x y (b ∷ s) = four w x y (eqb b 32) b (words s)
 pub command-many : (w x s : List ℕ) → placeOf 32 s < length s → command (w ∷ x ∷ words s) ≡ Unknown
 command-many w x s h = rw (words-more s h) (command-four w x (take (placeOf 32 s) s) (drop (suc (placeOf 32 s)) s))
 
-pub command-three : (w x s : List ℕ) → length s ≤ placeOf 32 s → command (w ∷ x ∷ words s) ≡ withTwo w (number x) (number s)
+pub command-three : (w x s : List ℕ) → length s ≤ placeOf 32 s → command (w ∷ x ∷ words s) ≡ withTwo w (shortNumber x) (shortNumber s)
 unfolding command
 command-three w x s h = rw (words-one s h) refl
 
@@ -37,7 +37,7 @@ module _ (w s : List ℕ) (h : length s ≤ placeOf 32 s) where
   unfolding command
   command-fetch e = rw (words-one s h, e) refl
 
-  pub command-two : same w fetchWord ≡ false → command (w ∷ words s) ≡ withOne w (number s)
+  pub command-two : same w fetchWord ≡ false → command (w ∷ words s) ≡ withOne w (shortNumber s)
   unfolding command
   command-two e = rw (words-one s h, e) refl
 

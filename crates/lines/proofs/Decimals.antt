@@ -9,8 +9,8 @@ use lib.Dec.{ltb}
 use lib.ListN.{length, getD, take, set, length-append}
 use lib.Seq.{sets, take-suc}
 use borrow.Author.Tests.{lt-ltb, le-ltb}
+use Rattle.general.proofs.Laws.{by-bool}
 use Rattle.lines.specs.Printing.{decimalIn, decimal, field, fields, line}
-use Rattle.lines.proofs.Cuts.{by-bool}
 
 -- more steps than n change nothing
 fuel : (f g n : ℕ) → n ≤ f → n ≤ g → decimalIn f n ≡ decimalIn g n

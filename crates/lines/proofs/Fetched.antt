@@ -4,6 +4,7 @@ use mathlib.Core.Bool.{false}
 use mathlib.Core.List.{List}
 use Prim.Native.Nat.{ℕ}
 use lib.Dec.{eqb}
+use Rattle.general.proofs.Laws.{by-bool}
 use Rattle.calls.specs.declared.Drive.{Drive}
 use Rattle.calls.specs.declared.Refusal.{Refusal}
 use Rattle.calls.specs.declared.Check.{Check}
@@ -17,7 +18,6 @@ use Rattle.waiting.specs.declared.Order.{Order}
 use Rattle.orders.specs.Answers.{made, outcomeOf}
 use Rattle.orders.specs.Results.{carried, saying}
 use Rattle.lines.specs.Replies.{outcomeLine, orderingLine}
-use Rattle.lines.proofs.Cuts.{by-bool}
 
 -- the answer of a change, kept and fetched, is printed as the change prints it
 abbrev Alike : Change → Type 0

@@ -10,7 +10,7 @@ use Rattle.lines.specs.declared.Command.{Command}
 use Rattle.lines.specs.declared.talking.Stepped.{Stepped}
 use Rattle.lines.specs.declared.hearing.Session.{Session}
 use Rattle.lines.specs.Grammar.{parsed}
-use Rattle.lines.specs.Replies.{Told, reply, driveAfter, boardAfter, listAfter}
+use Rattle.lines.specs.Replies.{Told, replyLine, driveAfter, boardAfter, listAfter}
 use Rattle.lines.specs.Sessions.{lineOf, ended, Hears}
 
 -- no more can be taken than there is
@@ -23,9 +23,9 @@ take-least n m l e =
 
 -- the end of a line is what its command tells
 pub ended-hears : (s : Session) (c : Command) (B L O : List ℕ) (at : ℕ) (r : Stepped) (B′ L′ O′ : List ℕ) → c ≡ parsed (lineOf s)
-    → (Told (driveAfter c (s .drive) B L) (reply c (s .drive) B L) O at r O′) × (B′ ≡ boardAfter c (s .drive) B L) × (L′ ≡ listAfter c (s .drive) B L)
+    → (Told (driveAfter c (s .drive) B L) (replyLine c (s .drive) B L) O at r O′) × (B′ ≡ boardAfter c (s .drive) B L) × (L′ ≡ listAfter c (s .drive) B L)
     → Hears (ended s B L) (boardAfter (parsed (lineOf s)) (s .drive) B L) (listAfter (parsed (lineOf s)) (s .drive) B L)
-    (reply (parsed (lineOf s)) (s .drive) B L) O at
+    (replyLine (parsed (lineOf s)) (s .drive) B L) O at
     (record { session = record { drive = r .drive; start = s .start; count = 0 }; to = r .to }) B′ L′ O′
 ended-hears s c B L O at r B′ L′ O′ e told =
     rw (← e)

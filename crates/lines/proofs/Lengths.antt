@@ -8,12 +8,13 @@ use native.Mathlib.Decide.{decLt}
 use lib.Dec.{eqb}
 use lib.ListN.{length, take}
 use lib.Seq.{take-all, length-take-le}
-use Rattle.lines.specs.Grammar.{parted, words, same, mostDigits, number, ticketDigits, openWord, addWord, removeWord, slotWord, roundWord, fetchWord, longest, alone, withOne, withTwo, command, parsed}
+use Rattle.general.proofs.Laws.{by-bool}
+use Rattle.lines.specs.Grammar.{parted, words, same, mostDigits, shortNumber, ticketDigits, openWord, addWord, removeWord, slotWord, roundWord, fetchWord, longest, alone, withOne, withTwo, command, parsed}
 use Rattle.lines.specs.Sessions.{keptBytes}
 use Rattle.lines.specs.declared.Command.the-variants.{Unknown}
 use Rattle.lines.specs.declared.reading.Numeral.{Numeral}
 use Rattle.lines.specs.declared.reading.Numeral.the-variants.{Value, Nothing}
-use Rattle.lines.proofs.Cuts.{by-bool, same-short}
+use Rattle.lines.proofs.Cuts.{same-short}
 use Rattle.lines.proofs.Spelling.{numeral-long}
 
 -- how many bytes words have, with a space between each two
@@ -76,15 +77,15 @@ command-long (w ∷ x ∷ []) h =
           (by-bool (same w fetchWord) (λ t. rw t refl) (λ f. rw f refl))
       | no l ↦ rw (same-short w fetchWord (λ e. omega arith)) (elim (decLt mostDigits (length x)) [
         | yes m ↦ rw (numeral-long mostDigits 65535 x m) refl
-        | no m ↦ one-long w (number x) (omega arith)
+        | no m ↦ one-long w (shortNumber x) (omega arith)
       ])
     ]
 command-long (w ∷ x ∷ y ∷ []) h =
     elim (decLt mostDigits (length x)) [
       | yes l ↦ rw (numeral-long mostDigits 65535 x l) refl
       | no l ↦ elim (decLt mostDigits (length y)) [
-        | yes m ↦ rw (numeral-long mostDigits 65535 y m) (two-none w (number x))
-        | no m ↦ two-long w (number x) (number y) (omega arith)
+        | yes m ↦ rw (numeral-long mostDigits 65535 y m) (two-none w (shortNumber x))
+        | no m ↦ two-long w (shortNumber x) (shortNumber y) (omega arith)
       ]
     ]
 command-long (w ∷ x ∷ y ∷ z ∷ ws) h = refl

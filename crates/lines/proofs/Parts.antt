@@ -8,11 +8,11 @@ use lib.Dec.{leb}
 use lib.ListN.{length, take}
 use lib.Seq.{take-nil}
 use borrow.Author.Tests.{le-leb}
+use Rattle.general.proofs.Laws.{by-bool}
 use Rattle.lines.specs.declared.hearing.Session.{Session}
 use Rattle.lines.specs.Replies.{room}
 use Rattle.lines.specs.Sessions.{Talk, heard, talked, begun, saidOf}
 use Rattle.lines.specs.Console.{heardAll}
-use Rattle.lines.proofs.Cuts.{by-bool}
 
 used-grows : (n : ℕ) (s : List ℕ) (t : Talk) → t .used ≤ talked n t s .used
 unfolding talked

@@ -8,14 +8,14 @@ use lib.Dec.{leb}
 use lib.ListN.{length, getD, drop, drop-of-length-le}
 use lib.Seq.{drop-cons}
 use borrow.Author.Tests.{le-leb, lt-leb, leb-true}
-use Rattle.lines.specs.Grammar.{digit, digits, spelled, numeral}
+use Rattle.general.proofs.Laws.{by-bool}
+use Rattle.lines.specs.Grammar.{digit, allDigits, spelled, numeral}
 use Rattle.lines.specs.declared.reading.Numeral.{Numeral}
 use Rattle.lines.specs.declared.reading.Numeral.the-variants.{Value, Nothing}
-use Rattle.lines.proofs.Cuts.{by-bool}
 
 -- what a word gives whose digits up to a place spell v, if the rest of it are digits and the whole is at most limit
 unfoldable pub readOn : ℕ → ℕ → List ℕ → Numeral
-readOn limit v s = cond (digits s && leb (spelled v s) limit) (Value (spelled v s)) Nothing
+readOn limit v s = cond (allDigits s && leb (spelled v s) limit) (Value (spelled v s)) Nothing
 
 pub spelled-le : (v : ℕ) (s : List ℕ) → v ≤ spelled v s
 unfolding spelled
@@ -36,26 +36,26 @@ numeral-read most limit w z h = rw (le-leb 1 (length w) (omega arith), le-leb (l
 
 module _ (limit v : ℕ) (w : List ℕ) (i : ℕ) (h : i < length w) where
   pub read-low : getD w i 0 < 48 → readOn limit v (drop i w) ≡ Nothing
-  unfolding readOn digits digit
+  unfolding readOn allDigits digit
   read-low l = rw (drop-cons w i 0 h, lt-leb 48 (getD w i 0) l) refl
 
   pub read-high : 57 < getD w i 0 → readOn limit v (drop i w) ≡ Nothing
-  unfolding readOn digits digit
+  unfolding readOn allDigits digit
   read-high l = rw (drop-cons w i 0 h, le-leb 48 (getD w i 0) (omega arith), lt-leb (getD w i 0) 57 l) refl
 
   pub read-more : 48 ≤ getD w i 0 → getD w i 0 ≤ 57
       → readOn limit v (drop i w) ≡ readOn limit (v * 10 + (getD w i 0 - 48)) (drop (suc i) w)
-  unfolding readOn digits digit spelled
+  unfolding readOn allDigits digit spelled
   read-more a b = rw (drop-cons w i 0 h, le-leb 48 (getD w i 0) a, le-leb (getD w i 0) 57 b) refl
 
 pub read-over : (limit v : ℕ) (s : List ℕ) → limit < v → readOn limit v s ≡ Nothing
 unfolding readOn
 read-over limit v s h =
     rw (lt-leb (spelled v s) limit (omega (arith, spelled-le v s)))
-    (by-bool (digits s) (λ t. rw t refl) (λ f. rw f refl))
+    (by-bool (allDigits s) (λ t. rw t refl) (λ f. rw f refl))
 
 pub read-end : (limit v : ℕ) (w : List ℕ) (i : ℕ) → length w ≤ i → v ≤ limit → readOn limit v (drop i w) ≡ Value v
-unfolding readOn digits spelled
+unfolding readOn allDigits spelled
 read-end limit v w i h k = rw (drop-of-length-le w h, le-leb v limit k) refl
 
 -- a number is within its limit
@@ -71,4 +71,4 @@ given-limit false b c limit v x e = let n : _≡_ {A = ℕ} 0 1 = cc in omega ar
 pub numeral-limit : (most limit : ℕ) (w : List ℕ) (v : ℕ) → numeral most limit w ≡ Value v → v ≤ limit
 unfolding numeral
 numeral-limit most limit w v e =
-    given-limit (leb 1 (length w)) (leb (length w) most) (digits w) limit (spelled 0 w) v e
+    given-limit (leb 1 (length w)) (leb (length w) most) (allDigits w) limit (spelled 0 w) v e

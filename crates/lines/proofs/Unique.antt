@@ -1,17 +1,15 @@
 -- No second answer fits the promises of `step`, `feed` and `finish`: the result, the board, the list and the lent bytes are decided. (That of `parse` is one equation.)
 -- Assumes nothing.
-use mathlib.Core.Path.{_≡_, sym, _∙_}
+use mathlib.Core.Path.{_≡_}
 use mathlib.Core.List.{List}
 use Prim.Native.Nat.{ℕ}
+use Rattle.general.proofs.Laws.{unique}
 use Rattle.calls.specs.declared.Drive.{Drive}
 use Rattle.lines.specs.declared.talking.Stepped.{Stepped}
 use Rattle.lines.specs.declared.hearing.Session.{Session}
 use Rattle.lines.specs.declared.hearing.Fed.{Fed}
 use Rattle.lines.specs.Replies.{Steps}
 use Rattle.lines.specs.Sessions.{Answered}
-
-unique : {A : Type 0} {x y z : A} → x ≡ z → y ≡ z → x ≡ y
-unique p q = p ∙ sym q
 
 pub step-unique : (l : List ℕ) (d : Drive) (B L O : List ℕ) {r q : Stepped} {B′ L′ O′ B″ L″ O″ : List ℕ}
     → Steps l d B L O r B′ L′ O′ → Steps l d B L O q B″ L″ O″ → (r ≡ q) × (B′ ≡ B″) × (L′ ≡ L″) × (O′ ≡ O″)

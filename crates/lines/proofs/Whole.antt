@@ -11,14 +11,14 @@ use lib.Dec.{eqb, ltb}
 use lib.ListN.{length, take, length-append, length-set}
 use lib.Seq.{take-all, take-append-le, take-suc-set}
 use borrow.Author.Tests.{lt-ltb, le-ltb, eq-eqb, ne-eqb}
+use Rattle.general.proofs.Laws.{by-bool}
 use Rattle.calls.specs.Records.{driveAt}
 use Rattle.lines.specs.declared.hearing.Session.{Session}
 use Rattle.lines.specs.Grammar.{parsed}
 use Rattle.lines.specs.Printing.{blank}
-use Rattle.lines.specs.Replies.{reply, driveAfter, boardAfter, listAfter}
+use Rattle.lines.specs.Replies.{replyLine, driveAfter, boardAfter, listAfter}
 use Rattle.lines.specs.Sessions.{keptBytes, started, lineOf, kept, ended, lastOf, Talk, heard, begun}
 use Rattle.lines.specs.Console.{linesAfter, linesOf, answers, heardAll, heardOut}
-use Rattle.lines.proofs.Cuts.{by-bool}
 use Rattle.lines.proofs.Lengths.{parsed-kept}
 
 -- the session keeps the start of the line w
@@ -70,7 +70,7 @@ line-end t =
       session = ended (t .session) (t .board) (t .list);
       board = boardAfter (parsed (lineOf (t .session))) (t .session .drive) (t .board) (t .list);
       list = listAfter (parsed (lineOf (t .session))) (t .session .drive) (t .board) (t .list);
-      said = t .said ++ reply (parsed (lineOf (t .session))) (t .session .drive) (t .board) (t .list);
+      said = t .said ++ replyLine (parsed (lineOf (t .session))) (t .session .drive) (t .board) (t .list);
       used = t .used + 1;
     }
 
@@ -98,7 +98,7 @@ unfolding heardOut heardAll answers linesAfter
 at-end t [] k = rw (keeps-last (t .session) [] k) (sym (append-nil (t .said)))
 at-end t (c ∷ w) k =
     rw (keeps-last (t .session) (c ∷ w) k, ne-eqb (length (c ∷ w)) 0 (λ e. omega arith), keeps-parsed (t .session) (c ∷ w) k)
-    (ap (λ (s : List ℕ). t .said ++ s) (sym (append-nil (reply (parsed (c ∷ w)) (t .session .drive) (t .board) (t .list)))))
+    (ap (λ (s : List ℕ). t .said ++ s) (sym (append-nil (replyLine (parsed (c ∷ w)) (t .session .drive) (t .board) (t .list)))))
 
 -- one byte more, of what was said and of the lines that are left
 module _ (s : List ℕ) (t : Talk) (w : List ℕ) (b : ℕ) (k : Keeps (t .session) w) where
@@ -114,7 +114,7 @@ module _ (s : List ℕ) (t : Talk) (w : List ℕ) (b : ℕ) (k : Keeps (t .sessi
       rw (out-more t b s, heard-end t b e, e)
       (more (keeps-none (line-end t .session) (k .full) refl)
       ∙ rw (keeps-parsed (t .session) w k)
-      (append-assoc (t .said) (reply (parsed w) (t .session .drive) (t .board) (t .list))
+      (append-assoc (t .said) (replyLine (parsed w) (t .session .drive) (t .board) (t .list))
       (answers (driveAfter (parsed w) (t .session .drive) (t .board) (t .list)) (boardAfter (parsed w) (t .session .drive) (t .board) (t .list))
       (listAfter (parsed w) (t .session .drive) (t .board) (t .list)) (linesAfter [] s))))
 

@@ -6,7 +6,7 @@ use Prim.Native.Nat.{ℕ}
 use lib.Dec.{eqb}
 use Rattle.calls.specs.declared.Drive.{Drive}
 use Rattle.lines.specs.Grammar.{parsed}
-use Rattle.lines.specs.Replies.{reply, driveAfter, boardAfter, listAfter}
+use Rattle.lines.specs.Replies.{replyLine, driveAfter, boardAfter, listAfter}
 use Rattle.lines.specs.Sessions.{Talk, heard, lastOf}
 
 -- what is left of a line at the end of the input: a line, unless it is empty
@@ -30,7 +30,7 @@ linesOf s = linesAfter [] s
 unfoldable pub answers : Drive → List ℕ → List ℕ → List (List ℕ) → List ℕ
 answers d B L [] = []
 answers d B L (l ∷ ls) =
-    reply (parsed l) d B L ++ answers (driveAfter (parsed l) d B L) (boardAfter (parsed l) d B L) (listAfter (parsed l) d B L) ls
+    replyLine (parsed l) d B L ++ answers (driveAfter (parsed l) d B L) (boardAfter (parsed l) d B L) (listAfter (parsed l) d B L) ls
 
 -- a talk over an input, with room for everything
 unfoldable pub heardAll : Talk → List ℕ → Talk

@@ -38,9 +38,9 @@ unfoldable pub digit : ℕ → Bool
 digit b = leb 48 b && leb b 57
 
 -- nothing but digits
-unfoldable pub digits : List ℕ → Bool
-digits [] = true
-digits (b ∷ s) = digit b && digits s
+unfoldable pub allDigits : List ℕ → Bool
+allDigits [] = true
+allDigits (b ∷ s) = digit b && allDigits s
 
 -- the number that digits spell after those that spell v
 unfoldable pub spelled : ℕ → List ℕ → ℕ
@@ -50,14 +50,14 @@ spelled v (b ∷ s) = spelled (v * 10 + (b - 48)) s
 -- a word as a number: it has 1 to most digits and nothing else, and is at most limit
 unfoldable pub numeral : ℕ → ℕ → List ℕ → Numeral
 numeral most limit w =
-    cond (leb 1 (length w) && leb (length w) most && digits w && leb (spelled 0 w) limit) (Value (spelled 0 w)) Nothing
+    cond (leb 1 (length w) && leb (length w) most && allDigits w && leb (spelled 0 w) limit) (Value (spelled 0 w)) Nothing
 
 -- "numbers have 1 to 5 digits and are at most 65,535"
 abbrev pub mostDigits : ℕ
 mostDigits = 5
 
-abbrev pub number : List ℕ → Numeral
-number w = numeral mostDigits 65535 w
+abbrev pub shortNumber : List ℕ → Numeral
+shortNumber w = numeral mostDigits 65535 w
 
 -- "`fetch TICKET` takes up to 20 digits, below 2^64"
 abbrev pub ticketDigits : ℕ
@@ -120,8 +120,8 @@ withTwo w (Value x) (Value y) = cond (same w addWord) (Add x y) Unknown
 unfoldable pub command : List (List ℕ) → Command
 command [] = Unknown
 command (w ∷ []) = alone w
-command (w ∷ x ∷ []) = cond (same w fetchWord) (withTicket (ticket x)) (withOne w (number x))
-command (w ∷ x ∷ y ∷ []) = withTwo w (number x) (number y)
+command (w ∷ x ∷ []) = cond (same w fetchWord) (withTicket (ticket x)) (withOne w (shortNumber x))
+command (w ∷ x ∷ y ∷ []) = withTwo w (shortNumber x) (shortNumber y)
 command (w ∷ x ∷ y ∷ z ∷ ws) = Unknown
 
 -- the command that a line is

@@ -66,14 +66,14 @@ fetchingLine (fetching.Waits ticket) = line 13 (ticket ∷ [])
 fetchingLine fetching.Unknown = line 15 []
 
 -- the line printed for a command, of a record, a board and a list
-unfoldable pub reply : Command → Drive → List ℕ → List ℕ → List ℕ
-reply (Open C) d B L = openingLine (opened C B (length L) .answer)
-reply (Add x w) d B L = orderingLine (changed d B L (addOrder x w) .answer)
-reply (Remove x) d B L = orderingLine (changed d B L (removeOrder x) .answer)
-reply Slot d B L = servingLine (served d B L .answer)
-reply Round d B L = roundLine d B
-reply (Fetch t) d B L = fetchingLine (fetched L t)
-reply Unknown d B L = unknown
+unfoldable pub replyLine : Command → Drive → List ℕ → List ℕ → List ℕ
+replyLine (Open C) d B L = openingLine (opened C B (length L) .answer)
+replyLine (Add x w) d B L = orderingLine (changed d B L (addOrder x w) .answer)
+replyLine (Remove x) d B L = orderingLine (changed d B L (removeOrder x) .answer)
+replyLine Slot d B L = servingLine (served d B L .answer)
+replyLine Round d B L = roundLine d B
+replyLine (Fetch t) d B L = fetchingLine (fetched L t)
+replyLine Unknown d B L = unknown
 
 -- "A refused open keeps the old record."
 abbrev pub keptBy : Opening → Drive → Drive → Drive
@@ -127,7 +127,7 @@ pub record Told (d : Drive) (said : List ℕ) (out : List ℕ) (at : ℕ) (r : S
 abbrev pub stepped : List ℕ → Drive → List ℕ → List ℕ → List ℕ → Stepped
 stepped l d B L O =
     cond (leb room (length O))
-    (record { drive = driveAfter (parsed l) d B L; to = length (reply (parsed l) d B L) })
+    (record { drive = driveAfter (parsed l) d B L; to = length (replyLine (parsed l) d B L) })
     (record { drive = d; to = 0 })
 
 abbrev pub steppedBoard : List ℕ → Drive → List ℕ → List ℕ → List ℕ → List ℕ
@@ -138,7 +138,7 @@ steppedList l d B L O = cond (leb room (length O)) (listAfter (parsed l) d B L) 
 
 -- the reply stands at the start of the lent bytes, and the bytes after it are as they were
 abbrev pub steppedBytes : List ℕ → Drive → List ℕ → List ℕ → List ℕ → List ℕ
-steppedBytes l d B L O = cond (leb room (length O)) (sets O 0 (reply (parsed l) d B L)) O
+steppedBytes l d B L O = cond (leb room (length O)) (sets O 0 (replyLine (parsed l) d B L)) O
 
 -- What a step over a line l promises: the result, and the board, the list and the lent bytes at exit.
 abbrev pub Steps : List ℕ → Drive → List ℕ → List ℕ → List ℕ → Stepped → List ℕ → List ℕ → List ℕ → Type 0

@@ -13,7 +13,7 @@ use Rattle.lines.specs.declared.hearing.Heard.{Heard}
 use Rattle.lines.specs.declared.hearing.Fed.{Fed}
 use Rattle.lines.specs.Grammar.{longest, parsed}
 use Rattle.lines.specs.Printing.{blank}
-use Rattle.lines.specs.Replies.{room, reply, driveAfter, boardAfter, listAfter}
+use Rattle.lines.specs.Replies.{room, replyLine, driveAfter, boardAfter, listAfter}
 
 -- how many bytes of a line are kept: one more than the longest command has, so that of a longer line more is kept than any command has
 abbrev pub keptBytes : ℕ
@@ -49,7 +49,7 @@ abbrev pub listHeard : Session → List ℕ → List ℕ → ℕ → List ℕ
 listHeard s B L b = cond (eqb b 10) (listAfter (parsed (lineOf s)) (s .drive) B L) L
 
 abbrev pub saidOf : Session → List ℕ → List ℕ → ℕ → List ℕ
-saidOf s B L b = cond (eqb b 10) (reply (parsed (lineOf s)) (s .drive) B L) []
+saidOf s B L b = cond (eqb b 10) (replyLine (parsed (lineOf s)) (s .drive) B L) []
 
 -- What hearing gives at a place of the lent bytes O: the next session, board and list, what is said from that place on, and nothing else of the bytes changed.
 pub record Hears (next : Session) (board list said O : List ℕ) (at : ℕ) (r : Heard) (B′ L′ O′ : List ℕ) : Type 0 where

@@ -2,7 +2,7 @@
 use crate::Command;
 ghost use mathlib.Core.Path.{_≡_};
 ghost use mathlib.Core.List.{_∷_};
-ghost use Rattle.lines.specs.Grammar.{placeOf, words, same as Grammar·same, numeral, number as Grammar·number, ticket, alone as Grammar·alone, withOne, withTicket, withTwo, command, parsed};
+ghost use Rattle.lines.specs.Grammar.{placeOf, words, same as Grammar·same, numeral, shortNumber as Grammar·number, ticket, alone as Grammar·alone, withOne, withTicket, withTwo, command, parsed};
 
 // A word read as a number.
 pub enum Numeral {
@@ -13,7 +13,7 @@ pub enum Numeral {
 // Numbers have 1 to 5 digits and are at most 65,535.
 const MOST_DIGITS: usize = 5;
 
-const LARGEST: usize = 65535;
+const LARGEST_NUMBER: usize = 65535;
 
 // Tickets have 1 to 20 digits and are below 2^64.
 const MOST_TICKET_DIGITS: usize = 20;
@@ -102,7 +102,7 @@ fn alone(word: &[u8]) -> Command
 fn with_one(word: &[u8], first: &[u8]) -> Command
     ensures { λ r. ⌜ r ≡ withOne (now (word .entry)) (Grammar·number (now (first .entry))) ⌝ }
 {
-    match number(first, MOST_DIGITS, LARGEST) {
+    match number(first, MOST_DIGITS, LARGEST_NUMBER) {
         Numeral::Nothing => Command::Unknown,
         Numeral::Value(x) => {
             let n = x as u16;
@@ -131,9 +131,9 @@ fn with_ticket(first: &[u8]) -> Command
 fn with_two(word: &[u8], first: &[u8], second: &[u8]) -> Command
     ensures { λ r. ⌜ r ≡ withTwo (now (word .entry)) (Grammar·number (now (first .entry))) (Grammar·number (now (second .entry))) ⌝ }
 {
-    match number(first, MOST_DIGITS, LARGEST) {
+    match number(first, MOST_DIGITS, LARGEST_NUMBER) {
         Numeral::Nothing => Command::Unknown,
-        Numeral::Value(x) => match number(second, MOST_DIGITS, LARGEST) {
+        Numeral::Value(x) => match number(second, MOST_DIGITS, LARGEST_NUMBER) {
             Numeral::Nothing => Command::Unknown,
             Numeral::Value(y) => {
                 if same(word, b"add") {

@@ -20,7 +20,7 @@ ghost use Prim.Native.Nat.{_+_, _≤_};
 ghost use lib.ListN.{length};
 ghost use Rattle.calls.specs.Refusals.{numberOf};
 ghost use Rattle.lines.specs.Printing.{line, unknown, blank};
-ghost use Rattle.lines.specs.Replies.{room, Told, openingLine, orderingLine, servingLine, roundLine, outcomeLine, fetchingLine, keptBy, reply, driveAfter, boardAfter, listAfter, Steps};
+ghost use Rattle.lines.specs.Replies.{room, Told, openingLine, orderingLine, servingLine, roundLine, outcomeLine, fetchingLine, keptBy, replyLine, driveAfter, boardAfter, listAfter, Steps};
 
 // The record after a command, and the place in the lent bytes after its reply.
 pub struct Stepped {
@@ -199,7 +199,7 @@ pub fn answer(
     at: usize,
 ) -> Stepped
     requires { ⌜ at + room ≤ length (now out) ⌝ }
-    ensures { λ r. ⌜ (Told (driveAfter command drive (now (board .entry)) (now (list .entry))) (reply command drive (now (board .entry)) (now (list .entry))) (now (out .entry)) at r (now (out .exit))) × (now (board .exit) ≡ boardAfter command drive (now (board .entry)) (now (list .entry))) × (now (list .exit) ≡ listAfter command drive (now (board .entry)) (now (list .entry))) ⌝ }
+    ensures { λ r. ⌜ (Told (driveAfter command drive (now (board .entry)) (now (list .entry))) (replyLine command drive (now (board .entry)) (now (list .entry))) (now (out .entry)) at r (now (out .exit))) × (now (board .exit) ≡ boardAfter command drive (now (board .entry)) (now (list .entry))) × (now (list .exit) ≡ listAfter command drive (now (board .entry)) (now (list .entry))) ⌝ }
 {
     match command {
         Command::Open(capacity) => {

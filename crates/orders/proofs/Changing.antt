@@ -2,13 +2,14 @@
 -- Assumes nothing.
 use mathlib.Core.Path.{_≡_, refl, sym, ap, ap₂, _∙_}
 use mathlib.Core.Bool.{Bool, true, false}
-use mathlib.Core.List.{List, [], _∷_, _++_}
+use mathlib.Core.List.{List, [], _∷_}
 use Prim.Native.Nat.{ℕ, suc, _+_, _-_, _≤_, _<_}
 use native.Mathlib.Omega.{arith}
 use native.Mathlib.Decide.{decLt}
 use lib.Dec.{eqb}
-use lib.ListN.{length, drop}
+use lib.ListN.{length}
 use borrow.Author.Tests.{eqb-true, ltb-false, lt-ltb, le-ltb}
+use Rattle.general.proofs.Laws.{by-bool}
 use Rattle.pieces.specs.Board.{weight}
 use Rattle.pieces.specs.Placing.{placed}
 use Rattle.pieces.specs.Tidying.{removed}
@@ -18,11 +19,11 @@ use Rattle.calls.specs.declared.Refusal.{Refusal}
 use Rattle.calls.specs.declared.Refusal.the-variants.{Short}
 use Rattle.calls.specs.declared.Check.{Check}
 use Rattle.calls.specs.declared.Check.the-variants.{Clear, Refused}
-use Rattle.calls.specs.Refusals.{numberOf, refuseIf, andThen, openCheck, slotCheck, changeCheck, positionCheck, addCheck, removeCheck}
+use Rattle.calls.specs.Refusals.{numberOf, andThen, openCheck, slotCheck, changeCheck, positionCheck, addCheck, removeCheck}
 use Rattle.calls.specs.Records.{driveAt}
 use Rattle.calls.specs.Answers.{answered, answeredWith, beside}
 use Rattle.calls.specs.Results.{ifClear, changeBy, admittedBy, addedIdle, removedIdle}
-use Rattle.calls.proofs.Laws.{by-bool, Sized, open-clear, first-clear, then-clear, slot-parts, add-clear, remove-clear, add-keeps, remove-keeps}
+use Rattle.calls.proofs.Laws.{Sized, open-clear, first-clear, then-clear, slot-parts, add-clear, remove-clear, add-keeps, remove-keeps, refuse-clear}
 use Rattle.sheets.specs.declared.Loaded.{Loaded}
 use Rattle.sheets.specs.declared.Loading.the-variants as loading
 use Rattle.sheets.specs.declared.Loading.{Loading}
@@ -37,10 +38,6 @@ use Rattle.orders.specs.Answers.{orderingAnswer, made, listed}
 use Rattle.orders.specs.Checks.{longCheck, lentCheck, boundsCheck, readingCheck, shortBy, shortList, wayBy}
 use Rattle.orders.specs.Results.{carried, carriedAnswer, carriedBoard, doing, saying, takenAnswer, ranBoard, ranList, boardIf, boardThen, emptiedBy}
 use Rattle.orders.specs.Promises.{LoadsAs}
-
-refuse-clear : (b : Bool) (r : Refusal) (k : Check) → refuseIf b r k ≡ Clear → (b ≡ false) × (k ≡ Clear)
-refuse-clear true r k e = let z : _≡_ {A = ℕ} 0 1 = cc in absurd (omega arith)
-refuse-clear false r k e = (refl, e)
 
 long-clear : (n : ℕ) → longCheck n ≡ Clear → 259 ≤ n
 long-clear n e = ltb-false n 259 (refuse-clear (tooShort n) Short Clear e .0)

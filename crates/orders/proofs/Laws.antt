@@ -1,14 +1,15 @@
 -- The laws of the calls with the list that upper crates cite: no second answer fits; what a refusal, a wait and a full list leave as it was; when the list is run;
 -- what is known once the first checks are clear, and what a change says in numbers.
 -- Assumes nothing.
-use mathlib.Core.Path.{_≡_, refl, sym, ap, _∙_}
+use mathlib.Core.Path.{_≡_, refl, sym, _∙_}
 use mathlib.Core.Bool.{Bool, true, false}
-use mathlib.Core.List.{List, [], _∷_, _++_}
+use mathlib.Core.List.{List, _++_}
 use Prim.Native.Nat.{ℕ, _≤_}
 use native.Mathlib.Omega.{arith}
 use lib.Dec.{eqb}
 use lib.ListN.{length, drop}
 use borrow.Author.Tests.{ne-eqb, eqb-true, le-ltb}
+use Rattle.general.proofs.Laws.{by-bool, unique}
 use Rattle.calls.specs.declared.Drive.{Drive}
 use Rattle.calls.specs.declared.Refusal.{Refusal}
 use Rattle.calls.specs.declared.Check.{Check}
@@ -20,7 +21,7 @@ use Rattle.calls.specs.declared.Served.{Served}
 use Rattle.calls.specs.Records.{driveAt}
 use Rattle.calls.specs.Refusals.{openCheck, slotCheck, positionCheck}
 use Rattle.calls.specs.Results.{ifClear}
-use Rattle.calls.proofs.Laws.{by-bool, first-clear, then-clear, slot-parts}
+use Rattle.calls.proofs.Laws.{first-clear, then-clear, slot-parts}
 use Rattle.sheets.specs.declared.Loaded.{Loaded}
 use Rattle.waiting.specs.declared.Order.{Order}
 use Rattle.sheets.specs.Sheet.{capacityIn}
@@ -60,14 +61,11 @@ kept-says d B o = kept-ordering (carried d B o) ∙ made-says d B o
 
 -- ---- no second answer, board or list fits
 
-same : {A : Type 0} {x y z : A} → x ≡ z → y ≡ z → x ≡ y
-same p q = p ∙ sym q
-
 pub open-unique : (C : ℕ) (B L : List ℕ) {r s : Opened} {E F G H : List ℕ} → Opens C B L r E F → Opens C B L s G H → (r ≡ s) × (E ≡ G) × (F ≡ H)
-open-unique C B L p q = (same (p .0) (q .0), same (p .2) (q .2), same (p .3) (q .3))
+open-unique C B L p q = (unique (p .0) (q .0), unique (p .2) (q .2), unique (p .3) (q .3))
 
 loads-unique : (form : Form) (S B L : List ℕ) {r s : Loaded} {E F G H : List ℕ} → LoadsAs form S B L r E F → LoadsAs form S B L s G H → (r ≡ s) × (E ≡ G) × (F ≡ H)
-loads-unique form S B L p q = (same (p .0) (q .0), same (p .2) (q .2), same (p .3) (q .3))
+loads-unique form S B L p q = (unique (p .0) (q .0), unique (p .2) (q .2), unique (p .3) (q .3))
 
 pub read-unique : (S B L : List ℕ) {r s : Loaded} {E F G H : List ℕ} → Loads S B L r E F → Loads S B L s G H → (r ≡ s) × (E ≡ G) × (F ≡ H)
 read-unique = loads-unique leafForm
@@ -76,16 +74,16 @@ pub read-pieces-unique : (S B L : List ℕ) {r s : Loaded} {E F G H : List ℕ} 
 read-pieces-unique = loads-unique pieceForm
 
 pub change-unique : (d : Drive) (B L : List ℕ) (o : Order) {r s : Ordered} {E F G H : List ℕ} → Orders d B L o r E F → Orders d B L o s G H → (r ≡ s) × (E ≡ G) × (F ≡ H)
-change-unique d B L o p q = (same (p .0) (q .0), same (p .2) (q .2), same (p .3) (q .3))
+change-unique d B L o p q = (unique (p .0) (q .0), unique (p .2) (q .2), unique (p .3) (q .3))
 
 pub slot-unique : (d : Drive) (B L : List ℕ) {r s : Served} {E F G H : List ℕ} → Serves d B L r E F → Serves d B L s G H → (r ≡ s) × (E ≡ G) × (F ≡ H)
-slot-unique d B L p q = (same (p .0) (q .0), same (p .2) (q .2), same (p .3) (q .3))
+slot-unique d B L p q = (unique (p .0) (q .0), unique (p .2) (q .2), unique (p .3) (q .3))
 
 pub take-unique : (k : Way) (d : Drive) (B L : List ℕ) (o : Order) {r s : Ordered} {E F G H : List ℕ} → Takes k d B L o r E F → Takes k d B L o s G H → (r ≡ s) × (E ≡ G) × (F ≡ H)
-take-unique k d B L o p q = (same (p .0) (q .0), same (p .2) (q .2), same (p .3) (q .3))
+take-unique k d B L o p q = (unique (p .0) (q .0), unique (p .2) (q .2), unique (p .3) (q .3))
 
 pub serve-unique : (k : Check) (begins : Bool) (d : Drive) (B L : List ℕ) {r s : Served} {E F G H : List ℕ} → ServesBy k begins d B L r E F → ServesBy k begins d B L s G H → (r ≡ s) × (E ≡ G) × (F ≡ H)
-serve-unique k begins d B L p q = (same (p .0) (q .0), same (p .2) (q .2), same (p .3) (q .3))
+serve-unique k begins d B L p q = (unique (p .0) (q .0), unique (p .2) (q .2), unique (p .3) (q .3))
 
 -- ---- add and remove
 

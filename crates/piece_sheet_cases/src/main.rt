@@ -289,7 +289,7 @@ fn run_faults(board: &mut [u16; 4095], sheet: &mut [u8; 25600]) {
     two(8, 1, of(5, 0, 0), of(0, 1, 0), board, sheet);
 }
 
-// A sheet of two blocks: 84 names of one leaf each in the first, less so many; so many in the second; read with C = 90.
+// A sheet of two blocks: so many names of one leaf each in the first, and so many in the second; read with C = 90.
 fn blocks(
     first: usize,
     second: usize,

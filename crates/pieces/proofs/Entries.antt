@@ -1,23 +1,24 @@
--- The pieces of a block that streams own, as a recursion on its halves enters them. Assumes nothing.
+-- The pieces of a block that streams own: a run entered in a list, and a block's list by its halves. Assumes nothing.
 use mathlib.Core.Path.{_≡_, refl, sym, ap, _∙_}
-use mathlib.Core.Bool.{true, false, cond}
+use mathlib.Core.Bool.{true, false}
 use mathlib.Core.List.{List, [], _∷_, _++_}
-use Prim.Native.Nat.{ℕ, zero, suc, _+_, _-_, _*_, _^_, _≤_, _<_}
+use Prim.Native.Nat.{ℕ, zero, suc, _+_, _*_, _^_, _≤_, _<_}
 use native.Mathlib.Nat.{add-zero, two-pow-succ}
 use native.Mathlib.Numerals.{add-one}
 use native.Mathlib.Omega.{arith}
 use native.Mathlib.Decide.{decLt}
-use lib.Dec.{eqb, ltb}
+use lib.Dec.{eqb}
 use lib.ListN.{length, getD, set, length-append}
 use lib.Pow.{pow-pos}
 use lib.Seq.{sets}
 use borrow.Author.Tests.{lt-ltb, le-ltb, eq-eqb, ne-eqb}
+use Rattle.general.proofs.Laws.{by-bool, clash}
 use Rattle.pieces.specs.Board.{whole}
 use Rattle.pieces.specs.Halving.{countFrom}
 use Rattle.pieces.specs.Listing.{entry, named}
-use Rattle.pieces.proofs.Blocks.{by-bool, clash, whole-elim, whole-intro}
+use Rattle.pieces.proofs.Blocks.{whole-elim, whole-intro}
 use Rattle.pieces.proofs.Replace.{whole-local}
-use Rattle.pieces.proofs.Steps.{count-whole, pow-half}
+use Rattle.pieces.proofs.Steps.{count-whole}
 
 -- ---- the test of a run by a count
 
@@ -48,15 +49,18 @@ run-entered L (suc x) a l n e h =
     let two : n + 2 ≡ suc (suc n) = omega arith in
     (refl, omega arith, rw (two, add-one n) refl)
 
+-- Numbers stored one list after the other.
+pub stores : (L : List ℕ) (i : ℕ) (xs ys : List ℕ) → sets (sets L i xs) (i + length xs) ys ≡ sets L i (xs ++ ys)
+stores L i [] ys = ap (λ (k : ℕ). sets L k ys) (add-zero i)
+stores L i (x ∷ xs) ys =
+    let e : i + suc (length xs) ≡ suc i + length xs = omega arith in
+    ap (λ (k : ℕ). sets (sets (set L i x) (suc i) xs) k ys) e ∙ stores (set L i x) (suc i) xs ys
+
 -- ---- a block listed
 
 module _ (C : ℕ) (B : List ℕ) where
   pub leaf-whole : (a : ℕ) → a < C → whole C B (getD B a 0) a 0 ≡ true
   leaf-whole a h = whole-intro C B (getD B a 0) a 0 (λ i p q. let r : i ≡ a = omega arith in rw r (h, refl))
-
-  pub not-leaf : (a l : ℕ) → a < C → whole C B (getD B a 0) a l ≡ false → l ≡ 0 → ⊥
-  not-leaf a zero h f e = clash (leaf-whole a h) f
-  not-leaf a (suc l) h f e = omega arith
 
   pub named-past : (a l : ℕ) → C ≤ a → named C B a l ≡ []
   unfolding named
@@ -75,34 +79,6 @@ module _ (C : ℕ) (B : List ℕ) where
         | yes h ↦ rw (lt-ltb a C h, f)
         | no h ↦ rw (named-past a (suc l) (omega arith), named-past a l (omega arith), named-past (a + 2 ^ l) l (omega arith))
       ]
-
-  -- what a recursion leaves in the list L, from the number n on
-  module _ (L : List ℕ) (a l n : ℕ) where
-    pub listed-past : C ≤ a → n ≤ 3 * a → (n ≡ n + length (named C B a l)) × (n ≤ 3 * (a + 2 ^ l)) × (L ≡ sets L n (named C B a l))
-    listed-past h k = rw (named-past a l h) (sym (add-zero n), omega arith, refl)
-
-    pub listed-run : (r : ℕ) (E : List ℕ) → a < C → whole C B (getD B a 0) a l ≡ true
-        → (r ≡ n + length (entry (getD B a 0) a l)) × (r ≤ 3 * a + 3) × (E ≡ sets L n (entry (getD B a 0) a l))
-        → (r ≡ n + length (named C B a l)) × (r ≤ 3 * (a + 2 ^ l)) × (E ≡ sets L n (named C B a l))
-    listed-run r E h t e = rw (named-run a l h t) (e .0, omega (arith, e .1, pow-pos l), e .2)
-
-    pub listed-halves : (h m r : ℕ) (M E : List ℕ) → l ≡ suc h → whole C B (getD B a 0) a l ≡ false
-        → (m ≡ n + length (named C B a h)) × (m ≤ 3 * (a + 2 ^ h)) × (M ≡ sets L n (named C B a h))
-        → (r ≡ m + length (named C B (a + 2 ^ h) h)) × (r ≤ 3 * (a + 2 ^ h + 2 ^ h)) × (E ≡ sets M m (named C B (a + 2 ^ h) h))
-        → (r ≡ n + length (named C B a l)) × (r ≤ 3 * (a + 2 ^ l)) × (E ≡ sets L n (named C B a l))
-    listed-halves h m r M E z f u v =
-        let both = named-halves a h (rw z at f) in
-        rw (z, both) (
-          rw (length-append) (omega (arith, u .0, v .0)),
-          omega (arith, v .1, pow-half l (λ e. omega arith)),
-          v .2 ∙ rw (u .2, u .0) (stores L n (named C B a h) (named C B (a + 2 ^ h) h)),
-        )
-      where
-        stores : (L : List ℕ) (i : ℕ) (xs ys : List ℕ) → sets (sets L i xs) (i + length xs) ys ≡ sets L i (xs ++ ys)
-        stores L i [] ys = ap (λ (k : ℕ). sets L k ys) (add-zero i)
-        stores L i (x ∷ xs) ys =
-            let e : i + suc (length xs) ≡ suc i + length xs = omega arith in
-            ap (λ (k : ℕ). sets (sets (set L i x) (suc i) xs) k ys) e ∙ stores (set L i x) (suc i) xs ys
 
 -- ---- what a list of pieces is made of
 

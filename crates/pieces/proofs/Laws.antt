@@ -15,7 +15,7 @@ use Rattle.pieces.specs.Tidying.{Removable, removed}
 -- Boards worked by hand. They are computed before any law is proved, so that a wrong rule falls on them first.
 pub use Rattle.pieces.proofs.Examples.{worked}
 -- The board after an add that passes its checks.
-pub use Rattle.pieces.proofs.Placing.{placed-length, placed-good, placed-weight, placed-idle, placed-others, placed-leaf, placed-beyond}
+pub use Rattle.pieces.proofs.AfterAdd.{placed-length, placed-good, placed-weight, placed-idle, placed-others, placed-leaf, placed-beyond}
 -- Streams added to idle leaves one after the other: that each can be added in its turn, and what they make of the board. `Apart` says that each has a name of
 -- its own and a weight; `listed` is what they give a name, `total` what they take in all.
 unfoldable pub use Rattle.pieces.proofs.Streams.{Apart, listed, total}
@@ -23,7 +23,7 @@ pub use Rattle.pieces.proofs.Layouts.{idle-placeable, idle-laid}
 -- A board laid out afresh: its entries, that it is good, what each name holds, that each stream can be added in its turn, that it hangs on the weights alone.
 pub use Rattle.pieces.proofs.Layouts.{fresh-length, fresh-beyond, fresh-good, fresh-weights, fresh-placeable, fresh-same, fresh-again}
 -- A run of one name, leaf by leaf.
-pub use Rattle.pieces.proofs.Blocks.{by-bool, clash, whole-elim, whole-name, whole-end}
+pub use Rattle.pieces.proofs.Blocks.{whole-elim, whole-name, whole-end}
 -- The list of a board's pieces: block by block; that it hangs on the leaves alone; its length and its numbers; that each entry is a piece of a named stream, in
 -- order, and no leaf of a stream is left out; that there is no second such list.
 pub use Rattle.pieces.proofs.Entries.{leaf-whole, named-past, named-run, named-halves, named-same, named-few, named-words}
@@ -75,7 +75,7 @@ pieces-ones C B x few sound = weights.good-number C B (good-elim C B sound) x �
 -- For each one of w, at the place l, it has a piece of 2 ^ l leaves.
 pub digit-piece : (C : ℕ) (B : List ℕ) (x l : ℕ) → C ≤ 4095 → good C B ≡ true → weight C B x / 2 ^ l % 2 ≡ 1 → (a : ℕ) × IsPiece C B x a l
 digit-piece C B x l few sound set =
-    let one : pieces C B x l 0 12 ≡ 1 =
+    let lone : pieces C B x l 0 12 ≡ 1 =
     weights.pieces-digit C B x 0 12 (good-elim C B sound x) l ∙ ap (λ (n : ℕ). n / 2 ^ l % 2) (sym (weights.weight-total C B x (omega arith))) ∙ set in
     (nth C B x l 0 0 12, nth-is-piece C few B x l 0 (omega arith))
 

@@ -1,11 +1,11 @@
 -- Streams added to idle leaves, and a board laid out afresh: what it holds, that it hangs on the weights alone, and that doing it again changes nothing.
 -- Assumes nothing.
-use mathlib.Core.Path.{_≡_, refl, sym, ap, _∙_}
+use mathlib.Core.Path.{_≡_, refl, sym, _∙_}
 use mathlib.Core.Bool.{true}
 use mathlib.Core.List.{List}
 use Prim.Native.Nat.{ℕ, zero, suc, _+_, _-_, _≤_, _<_}
 use native.Mathlib.Omega.{arith}
-use native.Mathlib.Decide.{decLt, decLe, ℕ-discrete}
+use native.Mathlib.Decide.{decLt, ℕ-discrete}
 use lib.ListN.{length, getD}
 use lib.Seq.{ext-getD}
 use borrow.Author.Tests.{ne-eqb}
@@ -16,7 +16,7 @@ use Rattle.pieces.proofs.Adding.{length-fill, fill-in, fill-out}
 use Rattle.pieces.proofs.Literal.{good-intro}
 use Rattle.pieces.proofs.Opened.{idle-good}
 use Rattle.pieces.proofs.Streams.{Apart, Laid, listed, total, laid-all, placeables, ranks-own, ranks-beyond, ranks-apart, ranks-total, ranks-same, ranks-more, leaves-span}
-use Rattle.pieces.proofs.Local.{Alike, laid-local}
+use Rattle.pieces.proofs.Local.{laid-local}
 
 -- The weights of idle leaves.
 idle-weights : (n : ℕ) (D : List ℕ) → ((i : ℕ) → i < n → getD D i 0 ≡ 0) → (weight n D 0 ≡ n) × ((x : ℕ) → (x ≡ 0 → ⊥) → weight n D x ≡ 0)

@@ -17,12 +17,13 @@ mod Steps
 mod Sums
 mod Opened
 mod Entries
+mod Walks
 mod Rows
 pub mod Laws
 mod Admitting
-mod Placing
+mod AfterAdd
 mod Streams
 mod Local
 mod Layouts
-mod Laying
+mod LayingOut
 mod Examples

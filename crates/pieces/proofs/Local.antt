@@ -1,6 +1,6 @@
 -- Placing hangs on the leaves alone: boards with equal leaves have equal leaves when the same streams are placed on them. Assumes nothing.
 use mathlib.Core.Path.{_≡_, refl, sym, ap, _∙_}
-use mathlib.Core.Bool.{Bool, true, false, cond}
+use mathlib.Core.Bool.{Bool}
 use mathlib.Core.List.{List, [], _∷_}
 use Prim.Native.Nat.{ℕ, zero, suc, _+_, _-_, _^_, _/_, _%_, _≤_, _<_}
 use native.Mathlib.Nat.{two-pow-succ}
@@ -8,10 +8,11 @@ use native.Mathlib.Omega.{arith}
 use native.Mathlib.Decide.{decLt, decLe}
 use lib.Dec.{ltb, eqb}
 use lib.ListN.{length, getD}
-use Rattle.pieces.specs.Board.{whole, pieces, nth}
+use Rattle.general.proofs.Laws.{by-bool}
+use Rattle.pieces.specs.Board.{pieces, nth}
 use Rattle.pieces.specs.Placing.{fill, first, fit, spot, put, place, placed}
 use Rattle.pieces.specs.Fresh.{Stream, laid}
-use Rattle.pieces.proofs.Blocks.{by-bool, pieces-runs}
+use Rattle.pieces.proofs.Blocks.{pieces-runs}
 use Rattle.pieces.proofs.Replace.{Agree, whole-local, runs-local}
 use Rattle.pieces.proofs.Adding.{length-fill, fill-in, fill-out}
 

@@ -10,8 +10,9 @@ use native.Mathlib.Decide.{decLt, ℕ-discrete}
 use lib.ListN.{getD}
 use lib.Pow.{pow-pos}
 use borrow.Author.Tests.{lt-ltb, le-ltb}
+use Rattle.general.proofs.Laws.{by-bool, never, clash}
 use Rattle.pieces.specs.Board.{whole, pieces, nth}
-use Rattle.pieces.proofs.Blocks.{In, here, low, high, by-bool, never, clash, whole-intro, whole-low, whole-high, runs-no, runs-above, runs-apart, pieces-runs, pieces-yes, pieces-no}
+use Rattle.pieces.proofs.Blocks.{In, here, low, high, whole-intro, whole-low, whole-high, runs-no, runs-above, runs-apart, pieces-runs, pieces-yes, pieces-no}
 use Rattle.pieces.proofs.Replace.{bounds, NoParent}
 
 -- A block within a block that is halved.

@@ -1,6 +1,6 @@
 -- Streams placed one after the other: what a list of them gives each name, that each can be placed in its turn, and the board that they make. Assumes nothing.
 use mathlib.Core.Path.{_≡_, refl, sym, ap, _∙_}
-use mathlib.Core.Bool.{Bool, true, false, cond}
+use mathlib.Core.Bool.{true, cond}
 use mathlib.Core.List.{List, [], _∷_, _++_}
 use Prim.Native.Nat.{ℕ, zero, suc, _+_, _≤_, _<_}
 use native.Mathlib.Nat.{zero-add}
@@ -9,11 +9,12 @@ use native.Mathlib.Decide.{decLt, ℕ-discrete}
 use lib.Dec.{leb, eqb}
 use lib.ListN.{length, getD}
 use borrow.Author.Tests.{eq-eqb, ne-eqb, le-leb, lt-leb}
-use Rattle.pieces.specs.Board.{bit, good, weight}
+use Rattle.general.specs.Tests.{one}
+use Rattle.general.proofs.Laws.{by-bool}
+use Rattle.pieces.specs.Board.{good, weight}
 use Rattle.pieces.specs.Placing.{Placeable, placed}
 use Rattle.pieces.specs.Fresh.{Stream, rising, rank, ranks, laid, Placeables, largest}
-use Rattle.pieces.proofs.Blocks.{by-bool}
-use Rattle.pieces.proofs.Placing.{placed-length, placed-good, placed-weight, placed-idle, placed-others, placed-beyond}
+use Rattle.pieces.proofs.AfterAdd.{placed-length, placed-good, placed-weight, placed-idle, placed-others, placed-beyond}
 
 -- ---- a list of streams
 
@@ -191,11 +192,11 @@ unfolding span
 span-none g x zero h = refl
 span-none g x (suc n) h = omega (arith, h x (omega arith) (omega arith), span-none g (suc x) n (λ y p l. h y (omega arith) (omega arith)))
 
-span-one : (v x n : ℕ) → x ≤ v → v < x + n → span (λ y. bit (eqb v y)) x n ≡ 1
+span-one : (v x n : ℕ) → x ≤ v → v < x + n → span (λ y. one (eqb v y)) x n ≡ 1
 unfolding span
 span-one v x zero p l = absurd (omega arith)
 span-one v x (suc n) p l = elim (ℕ-discrete v x) [
-  | yes e ↦ rw (eq-eqb v x e) (omega (arith, span-none (λ y. bit (eqb v y)) (suc x) n (λ y q k. rw (ne-eqb v y (λ r. omega arith)))))
+  | yes e ↦ rw (eq-eqb v x e) (omega (arith, span-none (λ y. one (eqb v y)) (suc x) n (λ y q k. rw (ne-eqb v y (λ r. omega arith)))))
   | no e ↦ rw (ne-eqb v x e) (omega (arith, span-one v (suc x) n (omega arith) (omega arith)))
 ]
 
@@ -205,10 +206,10 @@ unfolding weight largest
 leaves-span zero N B h = omega (arith, span-none (weight 0 B) 1 N (λ y p l. refl))
 leaves-span (suc n) N B h =
     let v = getD B n 0 in
-    let s = span-add (weight (suc n) B) (weight n B) (λ y. bit (eqb v y)) (λ y. refl) 1 N in
+    let s = span-add (weight (suc n) B) (weight n B) (λ y. one (eqb v y)) (λ y. refl) 1 N in
     let r = leaves-span n N B (omega arith) in
     elim (ℕ-discrete v 0) [
-      | yes e ↦ rw (eq-eqb v 0 e) (omega (arith, span-none (λ y. bit (eqb v y)) 1 N (λ y p l. rw (ne-eqb v y (λ q. omega arith)))))
+      | yes e ↦ rw (eq-eqb v 0 e) (omega (arith, span-none (λ y. one (eqb v y)) 1 N (λ y p l. rw (ne-eqb v y (λ q. omega arith)))))
       | no e ↦ rw (ne-eqb v 0 e) (omega (arith, span-one v 1 N (omega arith) (omega arith)))
     ]
 

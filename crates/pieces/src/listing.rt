@@ -1,6 +1,8 @@
 // The list of the pieces that streams own, by their starts: what a sheet of pieces holds.
 ghost use mathlib.Core.Path.{_≡_};
-ghost use Prim.Native.Nat.{_+_, _*_, _^_, _≤_, _<_};
+ghost use mathlib.Core.Bool.{_&&_};
+ghost use Prim.Native.Nat.{suc, _+_, _*_, _%_, _^_, _≤_, _<_};
+ghost use lib.Dec.{eqb};
 ghost use lib.ListN.{getD, length};
 ghost use lib.Seq.{sets};
 ghost use Rattle.pieces.specs.Board as boards;
@@ -9,16 +11,41 @@ ghost use Rattle.pieces.specs.Listing as listing;
 use crate::count;
 use crate::size_of;
 
-// Whether a block is a run of one name.
-fn is_whole(board: &[u16], c: usize, a: usize, l: usize) -> bool
-    requires { ⌜ halving.Block c (length (now board)) a l × (a < c) ⌝ }
-    ensures { λ r. ⌜ r ≡ boards.whole c (now (board .entry)) (getD (now (board .entry)) a 0) a l ⌝ }
+// Whether a run of one name, of exponent l, that starts at the leaf a is the lower half of another.
+fn is_lower(board: &[u16], c: usize, a: usize, l: usize) -> bool
+    requires { ⌜ (c ≤ length (now board)) × (c ≤ 4095) × (a < c) × (l < 12) ⌝ }
+    ensures { λ r. ⌜ r ≡ (eqb (a % 2 ^ suc l) 0 && boards.whole c (now (board .entry)) (getD (now (board .entry)) a 0) (a + 2 ^ l) l) ⌝ }
 {
     let size = size_of(l);
-    if c < a + size {
+    if a % (size + size) != 0 {
         return false;
     }
-    count(board, a, size, board[a]) == size
+    if c < a + size + size {
+        return false;
+    }
+    count(board, a + size, size, board[a]) == size
+}
+
+// The exponent of the largest run of one name that starts at a leaf. The next leaf is looked at first: most pieces of many streams are of one leaf.
+fn exponent_at(board: &[u16], c: usize, a: usize) -> usize
+    requires { ⌜ (c ≤ length (now board)) × (c ≤ 4095) × (a < c) ⌝ }
+    ensures { λ r. ⌜ halving.Largest c (now (board .entry)) a r × (r < 12) ⌝ }
+{
+    if c <= a + 1 {
+        return 0;
+    }
+    if board[a + 1] != board[a] {
+        return 0;
+    }
+    let mut l: usize = 0;
+    while l < 12 {
+        if is_lower(board, c, a, l) {
+            l += 1;
+        } else {
+            return l;
+        }
+    }
+    l
 }
 
 // Enters a run of a name at the number n of a list, unless it is idle; where the next is entered.
@@ -35,26 +62,18 @@ fn list_run(x: u16, a: usize, l: usize, list: &mut [u16], n: usize) -> usize
     n + 3
 }
 
-// Enters the pieces of a block that are not idle, from the number n of a list on; where the next is entered.
-fn list_block(board: &[u16], c: usize, a: usize, l: usize, list: &mut [u16], n: usize) -> usize
-    requires { ⌜ halving.Block c (length (now board)) a l × (n ≤ 3 * a) × (3 * c ≤ length (now list)) ⌝ }
-    ensures { λ r. ⌜ (r ≡ n + length (listing.named c (now (board .entry)) a l)) × (r ≤ 3 * (a + 2 ^ l)) × (now (list .exit) ≡ sets (now (list .entry)) n (listing.named c (now (board .entry)) a l)) ⌝ }
-{
-    if c <= a {
-        return n;
-    }
-    if is_whole(board, c, a, l) {
-        return list_run(board[a], a, l, list, n);
-    }
-    let h = l - 1;
-    let m = list_block(board, c, a, h, list, n);
-    list_block(board, c, a + size_of(h), h, list, m)
-}
-
-// Lists the pieces that are not idle, by their starts, in three numbers each: name, start, exponent of the size; how many numbers these are.
+// Lists the pieces that are not idle, by their starts, in three numbers each: name, start, exponent of the size; how many numbers these are. A piece
+// is the largest run of one name from its start, and the next piece starts where it ends.
 pub fn list_pieces(board: &[u16], c: usize, list: &mut [u16]) -> usize
     requires { ⌜ (c ≤ length (now board)) × (c ≤ 4095) × (3 * c ≤ length (now list)) ⌝ }
     ensures { λ r. ⌜ (r ≡ length (listing.namedPieces c (now (board .entry)))) × (r ≤ 12288) × (now (list .exit) ≡ sets (now (list .entry)) 0 (listing.namedPieces c (now (board .entry)))) ⌝ }
 {
-    list_block(board, c, 0, 12, list, 0)
+    let mut a: usize = 0;
+    let mut n: usize = 0;
+    while a < c {
+        let l = exponent_at(board, c, a);
+        n = list_run(board[a], a, l, list, n);
+        a += size_of(l);
+    }
+    n
 }

@@ -10,7 +10,8 @@ use native.Mathlib.Omega.{arith}
 use lib.Arith.{digits-div}
 use lib.Dec.{eqb}
 use borrow.Author.Tests.{eq-eqb, ne-eqb}
-use Rattle.sequences.specs.Serving.{one, countIn}
+use Rattle.general.specs.Tests.{one}
+use Rattle.sequences.specs.Serving.{countIn}
 
 -- x is r modulo M.
 abbrev pub class : ℕ → ℕ → ℕ → Bool

@@ -14,9 +14,10 @@ use lib.Count.{trailingZeros}
 use lib.Dec.{eqb}
 use lib.ListN.{replicate}
 use lib.Pow.{pow-pos, pow-add, shr-shr, mod-pow-add, high}
+use Rattle.general.specs.Tests.{one}
 use Rattle.sequences.specs.Sequences.{rb}
 use Rattle.sequences.specs.Board.{digits, term, column, bit, start, leafAt, servedFrom, Position}
-use Rattle.sequences.specs.Serving.{one, countIn, countList, serves, leavesIn, leavesFrom}
+use Rattle.sequences.specs.Serving.{countIn, countList, serves, leavesIn, leavesFrom}
 use Rattle.sequences.proofs.Reverse.{rb-block, rb-split, rb-one}
 use Rattle.sequences.proofs.Zeros.{zeros-low, zeros-of}
 use Rattle.sequences.proofs.Places.{digits-lt, digits-le, digits-width, exponent-lt}

@@ -8,9 +8,10 @@ use Prim.Native.Nat.{ℕ, zero, suc, _+_, _-_, _*_, _/_, _%_, _^_, _≤_, _<_}
 use lib.Count.{ones}
 use lib.Dec.{eqb}
 use lib.ListN.{length, getD, replicate}
+use Rattle.general.specs.Tests.{one}
 use Rattle.sequences.specs.Sequences.{wss, tss, rb}
 use Rattle.sequences.specs.Board.{digits, term, start, leafAt, passedFrom, servedFrom, nextFrom, Position}
-use Rattle.sequences.specs.Serving.{one, countIn, countList, serves, inRun, servesRun, left, leavesFrom, afterSlots, Walked}
+use Rattle.sequences.specs.Serving.{countIn, countList, serves, inRun, servesRun, left, leavesFrom, afterSlots, Walked}
 use Rattle.sequences.specs.Scanning.{roundLeaves}
 use Rattle.sequences.proofs.Reverse as reverse
 use Rattle.sequences.proofs.Places as places

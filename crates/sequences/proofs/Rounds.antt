@@ -13,8 +13,9 @@ use lib.Count.{trailingZeros, ones, ones-cat, ones-step}
 use lib.Dec.{eqb, ltb}
 use lib.Pow.{pow-pos, pow-add}
 use borrow.Author.Tests.{eq-eqb, ne-eqb, eqb-true, lt-ltb, le-ltb}
+use Rattle.general.specs.Tests.{one}
 use Rattle.sequences.specs.Board.{digits, term, column, bit, Position}
-use Rattle.sequences.specs.Serving.{one, countIn, serves}
+use Rattle.sequences.specs.Serving.{countIn, serves}
 use Rattle.sequences.proofs.Zeros.{zeros-form, zeros-unique}
 use Rattle.sequences.proofs.Places.{digits-lt, mod-step}
 use Rattle.sequences.proofs.Stepping.{column-add, column-lt}

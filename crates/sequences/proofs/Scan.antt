@@ -13,9 +13,10 @@ use lib.Dec.{eqb}
 use lib.ListN.{length, drop, getD}
 use lib.Pow.{pow-pos}
 use lib.Seq.{drop-cons, drop-length}
+use Rattle.general.specs.Tests.{one}
 use Rattle.sequences.specs.Sequences.{wss, tss}
 use Rattle.sequences.specs.Board.{digits, term, column, start, leafAt, Position}
-use Rattle.sequences.specs.Serving.{one, countIn, countList, serves, leavesIn, leavesFrom}
+use Rattle.sequences.specs.Serving.{countIn, countList, serves, leavesIn, leavesFrom}
 use Rattle.sequences.specs.Scanning.{occurrences, scanned, roundLeaves}
 use Rattle.sequences.proofs.Zeros.{zeros-form}
 use Rattle.sequences.proofs.Lists.{wss-length, wss-closed, wss-term, tss-term}

@@ -11,6 +11,7 @@ use lib.Count.{trailingZeros}
 use lib.Dec.{leb, ltb}
 use lib.Pow.{pow-pos, pow-add, high, low, mod-pow-add, mod-mod-pow, field}
 use borrow.Author.Tests.{eq-eqb, eqb-true, leb-true, ltb-true, le-leb, lt-ltb}
+use Rattle.general.proofs.Laws.{both}
 use Rattle.sequences.specs.Sequences.{rb}
 use Rattle.sequences.specs.Board.{digits, term, column, bit, start, leafAt, Position}
 use Rattle.sequences.specs.Serving.{countIn, serves, inRun, servesRun}
@@ -19,7 +20,7 @@ use Rattle.sequences.proofs.Zeros.{zeros-form, zeros-unique}
 use Rattle.sequences.proofs.Places.{tree-split}
 use Rattle.sequences.proofs.Stepping.{column-add}
 use Rattle.sequences.proofs.Counting.{class, count-same, spread-times}
-use Rattle.sequences.proofs.Tests.{both, same-test}
+use Rattle.sequences.proofs.Tests.{same-test}
 
 mod-pow-mono : (n i j : ℕ) → i ≤ j → n % 2 ^ i ≤ n % 2 ^ j
 mod-pow-mono n i j h =

@@ -10,9 +10,11 @@ use native.Mathlib.Omega.{arith}
 use lib.Dec.{eqb}
 use lib.ListN.{length}
 use borrow.Author.Tests.{eq-eqb, eqb-true}
+use Rattle.general.specs.Tests.{one}
+use Rattle.general.proofs.Laws.{both}
 use Rattle.sequences.specs.Board.{digits, column, bit, leafAt, passedFrom, servedFrom, nextFrom, Position}
-use Rattle.sequences.specs.Serving.{one, countIn, countList, serves, servesOf, left, leavesIn, leavesFrom, afterSlots, Walked}
-use Rattle.sequences.proofs.Tests.{both, same-test}
+use Rattle.sequences.specs.Serving.{countIn, countList, serves, servesOf, left, leavesIn, leavesFrom, afterSlots, Walked}
+use Rattle.sequences.proofs.Tests.{same-test}
 use Rattle.sequences.proofs.Places.{digits-pos}
 use Rattle.sequences.proofs.Stepping.{served, served-set, served-clear, after-more, after-end, last-serves, even-pow}
 use Rattle.sequences.proofs.Successive.{leaves-length}

@@ -1,16 +1,12 @@
 -- What positions and slots in a row serve, and how often: by positions (a window of numbers P to P + T - 1) and by slots (n of them from p on).
 -- Assumes nothing.
 use mathlib.Core.Path.{_≡_}
-use mathlib.Core.Bool.{Bool, true, false, cond, _&&_}
+use mathlib.Core.Bool.{Bool, cond, _&&_}
 use mathlib.Core.List.{List, [], _∷_}
 use Prim.Native.Nat.{ℕ, zero, suc, _+_, _-_, _^_, _≤_, _<_}
 use lib.Dec.{eqb, leb, ltb}
+use Rattle.general.specs.Tests.{one}
 use Rattle.sequences.specs.Board.{digits, bit, column, leafAt, servedFrom, nextFrom}
-
--- 1 if a test holds, else 0.
-abbrev pub one : Bool → ℕ
-one true = 1
-one false = 0
 
 -- How many of the numbers P to P + T - 1 pass the test f.
 unfoldable pub countIn : (ℕ → Bool) → ℕ → ℕ → ℕ

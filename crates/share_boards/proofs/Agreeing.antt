@@ -15,7 +15,7 @@ use Rattle.calls.specs.declared.Check.{Check}
 use Rattle.calls.specs.declared.Check.the-variants.{Clear, Refused}
 use Rattle.calls.specs.Refusals.{refuseIf, andThen, askedName, slotMay, slotCheck, reportCheck, heldCheck, changeCheck}
 use Rattle.calls.specs.Results.{ifClear, idleBoard}
-use Rattle.calls.proofs.Laws.{first-next}
+use Rattle.calls.proofs.Laws.{first-next, then-none}
 use Rattle.sheets.specs.Sheet.{capacityIn}
 use Rattle.sheets.specs.Forms as forms
 use Rattle.sheets.specs.Forms.{Form, sizeOf, roomCheck}
@@ -35,10 +35,6 @@ use Rattle.share_boards.specs.Starting as starting
 use Rattle.shares.proofs.Laws.{share-ready, ready-change}
 use Rattle.share_boards.proofs.Looks.{ready-position, rounding-ready, reporting-clear}
 use Rattle.share_boards.proofs.Starts.{start-both-there, start-ready, save-rest, pieces-rest}
-
-then-nothing : (k : Check) → andThen k Clear ≡ k
-then-nothing Clear = refl
-then-nothing (Refused r) = refl
 
 -- ---- open and read: C leaves, and tables whose first C entries are 0
 
@@ -124,7 +120,7 @@ module _ (a b : Drive) (s : State) (n : Blank a b s) where
 
   pub look-same : lookCheck a b s ≡ pair.lookCheck a b (s .board)
   unfolding shareCheck
-  look-same = rw (n .long, blank-fit) (then-nothing (pairCheck a b (s .board) false))
+  look-same = rw (n .long, blank-fit) (then-none (pairCheck a b (s .board) false))
 
   pub start-same : starting.startCheck a b s ≡ pair.startCheck a b (s .board)
   unfolding starting.placedCheck starting.fitCheck pair.startCheck

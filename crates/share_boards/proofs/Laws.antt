@@ -9,6 +9,7 @@ use native.Mathlib.Omega.{arith}
 use lib.Dec.{eqb, ltb}
 use lib.ListN.{length, getD, replicate, length-replicate, getD-replicate, List·getD-append, drop}
 use borrow.Author.Tests.{ne-eqb}
+use Rattle.general.proofs.Laws.{unique}
 use Rattle.sequences.specs.Serving.{countList}
 use Rattle.pieces.specs.Board.{good}
 use Rattle.pieces.proofs.Laws.{opened-good}
@@ -26,7 +27,7 @@ use Rattle.calls.specs.Records.{driveAt}
 use Rattle.calls.specs.Refusals.{refuseIf, andThen, zeroOr, numbers, among, asked, askedOpen, askedOutput, askedName, openMay, roundMay, reportMay, changeMay, openCheck, roundCheck, heldCheck, goodCheck}
 use Rattle.calls.specs.Answers.{Answer, openingAnswer, roundingAnswer, reportAnswer, refreshingAnswer}
 use Rattle.calls.specs.Results.{ifClear, idleBoard}
-use Rattle.calls.proofs.Laws.{unique, Refuses, refuses, refusal, may, Within, within-among, first-within, then-within, if-within, covers, part-within, first-clear, then-clear, leaf-held}
+use Rattle.calls.proofs.Laws.{Refuses, refuses, refusal, may, Within, within-among, first-within, then-within, if-within, covers, part-within, first-clear, then-clear, leaf-held}
 use Rattle.sheets.specs.declared.Loaded.{Loaded}
 use Rattle.sheets.specs.Sheet.{capacityIn}
 use Rattle.sheets.specs.Forms.{Form, sizeOf, roomCheck, readMay, blockCheck, startCheck, loadingAnswer}
@@ -50,7 +51,7 @@ use Rattle.share_boards.proofs.Starts.{bounds, saving-first, level-same
 -- ---- the checks: once they find nothing the record is ready, and of a name that is reported on there is a leaf
 
 pub use Rattle.share_boards.proofs.Looks.{ready-first, rounding-ready, Reportable, reporting-clear}
-pub use Rattle.share_boards.proofs.Starts.{start-both-there, start-look, start-ready, saving-start}
+pub use Rattle.share_boards.proofs.Starts.{start-both-there, start-ready}
 -- ---- without over-allocated streams the calls are those without tables, and leave the tables
 
 pub use Rattle.share_boards.proofs.Agreeing.{Bare, open-agrees, read-agrees, read-pieces-agrees, Blank, look-same, start-same, level-agrees, round-agrees, report-agrees, save-agrees, save-pieces-agrees, fresh-agrees}

@@ -8,6 +8,7 @@ use native.Mathlib.Omega.{arith}
 use lib.Dec.{ltb}
 use lib.ListN.{length}
 use borrow.Author.Tests.{ltb-false, le-ltb}
+use Rattle.general.proofs.Laws.{neither}
 use Rattle.tables.specs.Settling.{clearedTable}
 use Rattle.calls.specs.declared.Refusal.{Refusal}
 use Rattle.calls.specs.declared.Refusal.the-variants.{Short}
@@ -15,8 +16,8 @@ use Rattle.calls.specs.declared.Check.{Check}
 use Rattle.calls.specs.declared.Check.the-variants.{Clear, Refused}
 use Rattle.calls.specs.declared.Opened.{Opened}
 use Rattle.calls.specs.Records.{driveAt}
-use Rattle.calls.specs.Refusals.{refuseIf, andThen, openCheck}
-use Rattle.calls.proofs.Laws.{first-clear, then-clear, open-clear}
+use Rattle.calls.specs.Refusals.{andThen, openCheck}
+use Rattle.calls.proofs.Laws.{first-clear, then-clear, open-clear, refuse-clear}
 use Rattle.sheets.specs.declared.Loaded.{Loaded}
 use Rattle.sheets.specs.declared.Loading.the-variants as loading
 use Rattle.sheets.specs.Sheet.{capacityIn}
@@ -28,14 +29,6 @@ use Rattle.shares.specs.States.{State, lent}
 use Rattle.shares.specs.Checks.{tooFew}
 use Rattle.share_boards.specs.Keeping.{lentCheck, openingCheck, readingCheckAs, Opens, LoadsAs}
 use Rattle.shares.proofs.Laws.{few-long}
-
-pub refuse-clear : (t : Bool) (r : Refusal) (k : Check) → refuseIf t r k ≡ Clear → (t ≡ false) × (k ≡ Clear)
-refuse-clear true r k e = let z : _≡_ {A = ℕ} 0 1 = cc in absurd (omega arith)
-refuse-clear false r k e = (refl, e)
-
-neither : (s t : Bool) → (s || t) ≡ false → (s ≡ false) × (t ≡ false)
-neither true t e = let z : _≡_ {A = ℕ} 0 1 = cc in absurd (omega arith)
-neither false t e = (refl, e)
 
 -- ---- 2
 

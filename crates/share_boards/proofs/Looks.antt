@@ -9,6 +9,7 @@ use lib.Count.{ones}
 use lib.Dec.{eqb}
 use lib.ListN.{getD}
 use borrow.Author.Tests.{le-ltb, eqb-false}
+use Rattle.general.proofs.Laws.{by-bool}
 use Rattle.sequences.specs.Board.{digits, Position}
 use Rattle.sequences.proofs.Laws.{digits-lt, first-position}
 use Rattle.pieces.specs.Board.{weight, number}
@@ -21,7 +22,7 @@ use Rattle.calls.specs.declared.Check.the-variants.{Clear}
 use Rattle.calls.specs.Records.{driveAt}
 use Rattle.calls.specs.Spacing.{spacingIn}
 use Rattle.calls.specs.Refusals.{removeCheck, roundCheck, heldCheck, positionCheck}
-use Rattle.calls.proofs.Laws.{by-bool, Sized, first-clear, then-clear, open-sized, slot-sized, slot-parts, remove-parts, remove-clear, remove-held, round-room}
+use Rattle.calls.proofs.Laws.{Sized, first-clear, then-clear, open-sized, slot-sized, slot-parts, remove-parts, remove-clear, remove-held, round-room}
 use Rattle.shares.specs.States.{State}
 use Rattle.shares.specs.Checks.{lookCheck, Ready}
 use Rattle.share_boards.specs.Looking.{roundingCheck, reportingCheck}

@@ -2,13 +2,14 @@
 -- the same names with the same weights it leaves one board.
 -- Assumes nothing.
 use mathlib.Core.Path.{_≡_, refl, sym, ap, _∙_}
-use mathlib.Core.Bool.{Bool, true, false}
+use mathlib.Core.Bool.{Bool, true}
 use mathlib.Core.List.{List, [], _∷_}
 use Prim.Native.Nat.{ℕ, max, _≤_, _<_}
 use native.Mathlib.Omega.{arith}
 use native.Mathlib.Decide.{decLt, ℕ-discrete}
 use lib.ListN.{length, getD}
 use lib.Seq.{ext-getD}
+use Rattle.general.proofs.Laws.{by-bool, clash}
 use Rattle.pieces.specs.Board.{weight}
 use Rattle.pieces.specs.Fresh.{fresh}
 use Rattle.pieces.proofs.Laws.{fresh-length, fresh-good, fresh-weights, fresh-again, fresh-same}
@@ -20,7 +21,6 @@ use Rattle.calls.specs.declared.Check.{Check}
 use Rattle.calls.specs.declared.Check.the-variants.{Clear, Refused}
 use Rattle.calls.specs.Refusals.{applies}
 use Rattle.calls.specs.Results.{ifClear}
-use Rattle.calls.proofs.Laws.{by-bool}
 use Rattle.drives.specs.Checks.{pairCheck, sizeCheck}
 use Rattle.shares.specs.States.{State, fitting}
 use Rattle.shares.specs.Checks.{tooFew}
@@ -67,9 +67,6 @@ module _ (a b : Drive) (s : State) (e : startCheck a b s ≡ Clear) where
       )
 
 -- ---- a table that has entries at lowest leaves alone is settled on its own board
-
-clash : {P : Type 0} {t : Bool} → t ≡ true → t ≡ false → P
-clash t f = let z : _≡_ {A = ℕ} 0 1 = cc in absurd (omega arith)
 
 module _ (C : ℕ) (B T : List ℕ) (only : (i : ℕ) → i < C → (getD T i 0 ≡ 0 → ⊥) → leads C B i ≡ true) where
   still-at : (i : ℕ) → i < C → i < length T → getD (settledTable C B B T) i 0 ≡ getD T i 0

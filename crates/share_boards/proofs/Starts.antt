@@ -19,7 +19,7 @@ use Rattle.calls.specs.declared.Check.{Check}
 use Rattle.calls.specs.declared.Check.the-variants.{Clear, Refused}
 use Rattle.calls.specs.declared.Refreshing.the-variants as refreshing
 use Rattle.calls.specs.Refusals.{refuseIf, andThen, askedOutput, slotMay, slotCheck}
-use Rattle.calls.proofs.Laws.{first-next, first-clear, then-clear}
+use Rattle.calls.proofs.Laws.{first-next, first-clear, then-clear, refuse-clear}
 use Rattle.sheets.specs.Forms as forms
 use Rattle.sheets.specs.Forms.{Form, sizeOf, roomCheck}
 use Rattle.sheets.specs.Results.{saveCheck, leafForm, pieceForm}
@@ -29,7 +29,6 @@ use Rattle.shares.specs.States.{State, lent}
 use Rattle.shares.specs.Checks.{tooFew, shareCheck, lookCheck, Ready}
 use Rattle.share_boards.specs.Starting.{fitCheck, placedCheck, startCheck, levelCheck, savingCheckAs, savingCheck, plainKind, savedOutputAs, afresh, Refreshes}
 use Rattle.shares.proofs.Laws.{share-ready}
-use Rattle.share_boards.proofs.Lends.{refuse-clear}
 use Rattle.share_boards.proofs.Looks.{ready-sized, ready-shared}
 
 -- ---- 1 to 5
@@ -89,9 +88,6 @@ module _ (there : Bool) (a b : Drive) (s : State) (e : placedCheck there a b s �
 module _ (a b : Drive) (s : State) (e : startCheck a b s ≡ Clear) where
   pub start-both-there : bothStart a b ≡ true
   start-both-there = placed-there (bothStart a b) a b s e
-
-  pub start-look : lookCheck a b s ≡ Clear
-  start-look = placed-look (bothStart a b) a b s e
 
   pub start-ready : Ready a s
   start-ready = placed-ready (bothStart a b) a b s e
@@ -158,9 +154,6 @@ pub save-writes : (F : Form) (k : Check) (a : Drive) (s : State) (O E : List ℕ
 save-writes F k a s O E e none rest h =
     let p : forms.savingCheck F a (s .board) (length O) ≡ Clear = rest ∙ room-found F k a s (length O) e in
     h ∙ rw (e, none, p) refl
-
-pub saving-start : (a b : Drive) (s : State) (n : ℕ) → savingCheck a b s n ≡ Clear → startCheck a b s ≡ Clear
-saving-start a b s n e = saving-first leafForm (startCheck a b s) a s n e
 
 -- ---- the fresh layout
 

@@ -1,15 +1,16 @@
 -- The table of r has for each stream what its over-allocated add asked for, and 0 for a stream that is not over-allocated, whatever orders are carried out.
 -- Assumes nothing.
 use mathlib.Core.Path.{_≡_, refl, sym, ap, _∙_}
-use mathlib.Core.Bool.{Bool, true, false, cond}
+use mathlib.Core.Bool.{true, false, cond}
 use mathlib.Core.List.{List, [], _∷_}
-use Prim.Native.Nat.{ℕ, zero, _≤_, _<_}
+use Prim.Native.Nat.{ℕ, _≤_, _<_}
 use native.Mathlib.Omega.{arith}
 use native.Mathlib.Decide.{ℕ-discrete}
 use lib.Dec.{eqb}
 use lib.ListN.{length, getD}
 use lib.Seq.{getD-set-same, getD-set-other}
 use borrow.Author.Tests.{eq-eqb, ne-eqb, eqb-true}
+use Rattle.general.proofs.Laws.{by-bool}
 use Rattle.pieces.specs.Board.{weight}
 use Rattle.pieces.specs.Placing.{Placeable, placed}
 use Rattle.pieces.specs.Tidying.{Removable, removed}
@@ -18,10 +19,10 @@ use Rattle.calls.specs.declared.Drive.{Drive}
 use Rattle.calls.specs.declared.Check.the-variants.{Clear}
 use Rattle.calls.specs.Refusals.{numberOf, addCheck, removeCheck}
 use Rattle.calls.specs.Answers.{Answer, answered}
-use Rattle.calls.proofs.Laws.{by-bool, number-some, add-clear, add-weight, remove-clear}
+use Rattle.calls.proofs.Laws.{number-some, add-clear, add-weight, remove-clear}
 use Rattle.tables.specs.Sharing.{heldFor, lowest, ratesFit}
 use Rattle.tables.specs.Settling.{settledTable, ratedTable}
-use Rattle.tables.proofs.Laws.{lowest-name, lowest-held, Rated, rated-at, placed-fits, new-below, new-name, new-rate, settled-moves, fits-parts}
+use Rattle.tables.proofs.Laws.{lowest-name, lowest-held, rated-at, placed-fits, new-below, new-name, new-rate, settled-moves, fits-parts}
 use Rattle.waiting.specs.declared.Order.{Order}
 use Rattle.waiting.specs.Carrying.{carriedAll}
 use Rattle.orders.specs.Results.{carriedAnswer, carriedBoard}

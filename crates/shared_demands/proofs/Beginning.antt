@@ -8,17 +8,17 @@ use native.Mathlib.Omega.{arith}
 use lib.Dec.{ltb}
 use lib.ListN.{length, drop}
 use borrow.Author.Tests.{ltb-false}
+use Rattle.general.proofs.Laws.{neither}
 use Rattle.sequences.proofs.Laws.{first-position}
 use Rattle.pieces.specs.Board.{good}
 use Rattle.calls.specs.declared.Refusal.{Refusal}
 use Rattle.calls.specs.declared.Refusal.the-variants.{Short}
-use Rattle.calls.specs.declared.Check.{Check}
 use Rattle.calls.specs.declared.Check.the-variants.{Clear}
 use Rattle.calls.specs.Records.{driveAt}
 use Rattle.calls.specs.Refusals.{andThen, refuseIf, openCheck, goodCheck}
 use Rattle.calls.specs.Results.{idleBoard}
 use Rattle.calls.proofs.Laws.{Sized, first-clear, then-clear, open-clear}
-use Rattle.sheets.specs.Sheet.{capacityIn, leavesIn, laid}
+use Rattle.sheets.specs.Sheet.{capacityIn, sheetLeaves, laid}
 use Rattle.sheets.specs.Forms.{blockCheck, startCheck}
 use Rattle.sheets.specs.Forms as forms
 use Rattle.sheets.specs.Results as sheets
@@ -31,9 +31,8 @@ use Rattle.shares.specs.States.{State}
 use Rattle.shares.specs.Checks.{tooFew}
 use Rattle.share_boards.specs.Keeping.{lentCheck, openingCheck, readingCheck, cleared, openedState, openedList, loadedState, loadedList}
 use Rattle.share_boards.specs.Keeping as keeping
-use Rattle.shared_demands.specs.Turns.{Pair}
 use Rattle.shared_demands.specs.Holding.{Ready}
-use Rattle.shared_demands.proofs.Checking.{neither, lent-share}
+use Rattle.shared_demands.proofs.Checking.{lent-share}
 
 refuse-clear : (t : Bool) (r : Refusal) → refuseIf t r Clear ≡ Clear → t ≡ false
 refuse-clear true r e = let z : _≡_ {A = ℕ} 0 1 = cc in absurd (omega arith)
@@ -90,8 +89,8 @@ module _ (t : State) (L : List ℕ) where
   unfolding keeping.readingCheckAs forms.readingCheck
   read-ready S e =
       let C = capacityIn S in
-      let rest = andThen (blockCheck (not (laid C S))) (goodCheck C (leavesIn C S)) in
+      let rest = andThen (blockCheck (not (laid C S))) (goodCheck C (sheetLeaves C S)) in
       let lent = lentCheck C t (length L) in
       let later = then-clear (startCheck S (t .board)) (andThen lent rest) e in
       let a : sheets.readCheck S (t .board) ≡ Clear = rw (first-clear (startCheck S (t .board)) (andThen lent rest) e) (then-clear lent rest later) in
-      rw e (begun C (leavesIn C S ++ drop C (t .board)) t L (read-sized S (t .board) a) (read-good S (t .board) a) (lent-long C t (length L) (first-clear lent rest later)))
+      rw e (begun C (sheetLeaves C S ++ drop C (t .board)) t L (read-sized S (t .board) a) (read-good S (t .board) a) (lent-long C t (length L) (first-clear lent rest later)))

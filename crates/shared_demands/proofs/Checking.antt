@@ -8,6 +8,7 @@ use native.Mathlib.Omega.{arith}
 use lib.Dec.{ltb}
 use lib.ListN.{length}
 use borrow.Author.Tests.{le-ltb, ltb-false}
+use Rattle.general.proofs.Laws.{neither}
 use Rattle.calls.specs.declared.Drive.{Drive}
 use Rattle.calls.specs.declared.Refusal.{Refusal}
 use Rattle.calls.specs.declared.Refusal.the-variants.{Damaged}
@@ -34,10 +35,6 @@ pub record Lent (a b : Drive) (s : State) (n : ℕ) : Type 0 where
   pub owed : a .capacity ≤ length (s .owed)
   pub others : a .capacity ≤ length (s .other)
   pub fit : fitting (a .capacity) s ≡ true
-
-pub neither : (s t : Bool) → (s || t) ≡ false → (s ≡ false) × (t ≡ false)
-neither true t e = let z : _≡_ {A = ℕ} 0 1 = cc in absurd (omega arith)
-neither false t e = (refl, e)
 
 fit-clear : (t : Bool) → refuseIf (not t) Damaged Clear ≡ Clear → t ≡ true
 fit-clear true e = refl

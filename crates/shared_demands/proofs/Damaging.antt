@@ -23,9 +23,8 @@ use Rattle.shares.specs.Checks.{listCheck, wayOf}
 use Rattle.shares.specs.Results.{onBoard}
 use Rattle.amended.specs.Carried.{actsOf}
 use Rattle.amended.proofs.Laws as amended
-use Rattle.shared_demands.specs.Turns.{Pair, shown, wayAt, Deed, Changes, Slots, Fetches, answersOwn}
+use Rattle.shared_demands.specs.Turns.{Pair, shown, wayAt, Changes, answersOwn}
 use Rattle.shared_demands.proofs.Standing.{Standing, first-clear}
-use Rattle.shared_demands.proofs.Rounds.{slot-served}
 
 -- a change that is refused before it waits is refused by the checks of an order
 way-refused : (k j : Check) (waits : Bool) (r : Refusal) → k ≡ Clear → wayBy k waits j ≡ way.Refused r → j ≡ Refused r
@@ -48,6 +47,3 @@ module _ (hs : List Stream) (s : Pair) (is : Standing hs s) where
 
   pub change-undamaged : (o : Order) → answersOwn (Changes o) s .number ≡ 5 → ⊥
   change-undamaged o = change-not o (wayAt o s) refl
-
-  pub slot-undamaged : answersOwn Slots s .number ≡ 5 → ⊥
-  slot-undamaged h = let z = slot-served hs s is in omega arith

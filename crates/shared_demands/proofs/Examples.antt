@@ -24,7 +24,7 @@ use Rattle.shares.specs.Checks.{tooFew, shareCheck, wayOf}
 use Rattle.shares.specs.Results.{overOrder, onBoard, tableAfter, ratesAfter, carriedRates, carriedOwed, ranState, ranList, stateThen, listThen}
 use Rattle.amended.specs.Histories.{through, along, following}
 use Rattle.amended.specs.Carried.{actOf, actsOf}
-use Rattle.shared_demands.specs.Turns.{Pair, exchanged, Changes, Slots, Turn, Own, Other, answers, leaves, leavesAll, turnedAll, due, plain, namesServed, leavesGiven, FullRound}
+use Rattle.shared_demands.specs.Turns.{Pair, Changes, Slots, Turn, Own, Other, answers, leaves, leavesAll, due, plain, namesServed, leavesGiven, FullRound}
 use Rattle.shared_demands.specs.Holding.{Ready, askedBy, askedAll, askedThrough}
 
 -- what a call answers: the number, then the values

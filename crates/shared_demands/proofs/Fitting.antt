@@ -1,8 +1,8 @@
 -- The tables go on fitting the board, and each deficit is told by the drive's place in its round: after orders, which are carried out only where both drives are at
 -- the start of a round and every deficit is 0, and after a turn.
 -- Assumes nothing.
-use mathlib.Core.Path.{_≡_, refl, sym, ap, subst, _∙_}
-use mathlib.Core.Bool.{Bool, true, false, cond}
+use mathlib.Core.Path.{_≡_, refl, sym, ap, _∙_}
+use mathlib.Core.Bool.{Bool, true}
 use mathlib.Core.List.{List, [], _∷_, _++_}
 use Prim.Native.Nat.{ℕ, zero, suc, _+_, _≤_, _<_}
 use native.Mathlib.Omega.{arith}
@@ -10,17 +10,17 @@ use native.Mathlib.Decide.{decLt, ℕ-discrete}
 use lib.Dec.{eqb}
 use lib.ListN.{length, getD}
 use borrow.Author.Tests.{eqb-true, ne-eqb}
+use Rattle.general.proofs.Laws.{by-bool}
 use Rattle.sequences.specs.Board.{leafAt, servedFrom, nextFrom, Position}
-use Rattle.sequences.specs.Serving.{one, countList, left, leavesFrom, afterSlots}
+use Rattle.sequences.specs.Serving.{countList, left, leavesFrom, afterSlots}
 use Rattle.sequences.proofs.Laws.{first-position, leaf-below, left-first, left-after, leaves-more, after-more-slots, round-ends}
 use Rattle.calls.specs.declared.Drive.{Drive}
 use Rattle.calls.specs.Refusals.{addCheck, removeCheck}
 use Rattle.calls.specs.Results.{servedLeaf, addedBoard, removedBoard}
-use Rattle.calls.proofs.Laws.{by-bool, add-clear, add-weight, remove-clear, leaves-times}
+use Rattle.calls.proofs.Laws.{add-clear, add-weight, remove-clear, leaves-times}
 use Rattle.pieces.specs.Placing.{placed}
 use Rattle.pieces.specs.Tidying.{removed}
 use Rattle.tables.specs.Sharing.{heldFor, lowest, ratesFit, owedFit}
-use Rattle.tables.specs.Settling.{settledTable, ratedTable}
 use Rattle.tables.specs.Turns.{owedAt, owedAlong}
 use Rattle.tables.proofs.Laws.{held-some, owedFrom, owed-append, serves-whole, lowest-at, rated-at, owed-none, fits-parts, fits-first, fits-swap, placed-fits, over-fits, removed-fits, turn-fits, settled-length, rated-length, turn-length, along, Zero, plain-settled}
 use Rattle.waiting.specs.declared.Order.{Order}

@@ -3,16 +3,14 @@
 -- is proved of the own drive holds of the other, since what that one sees is a history too.
 -- Assumes nothing.
 use mathlib.Core.Path.{_≡_, refl, sym, ap, subst, _∙_}
-use mathlib.Core.Bool.{true, false, cond}
+use mathlib.Core.Bool.{true, cond}
 use mathlib.Core.List.{List, [], _∷_, map}
 use Prim.Native.Nat.{ℕ, zero, _+_, _-_, _*_, _/_, _≤_, _<_}
 use native.Mathlib.Omega.{arith}
-use lib.Count.{ones}
 use lib.Dec.{ltb}
-use lib.ListN.{length, getD, replicate}
+use lib.ListN.{getD, replicate}
 use borrow.Author.Tests.{lt-ltb}
 use Rattle.pieces.specs.Board.{weight, number}
-use Rattle.calls.specs.declared.Drive.{Drive}
 use Rattle.calls.specs.declared.Check.the-variants.{Clear}
 use Rattle.calls.specs.Records.{roundAfter}
 use Rattle.calls.specs.Refusals.{firstOf, askedAdd}
@@ -20,7 +18,7 @@ use Rattle.calls.specs.Results.{roundNames}
 use Rattle.tables.specs.Sharing.{heldFor, lowest}
 use Rattle.tables.specs.Turns.{roundServes}
 use Rattle.tables.proofs.Laws.{held-above, owed-below, one-piece, Zero}
-use Rattle.demands.specs.Histories.{Act, after, log}
+use Rattle.demands.specs.Histories.{after, log}
 use Rattle.demands.specs.Histories as plainly
 use Rattle.demands.specs.Refusing.{otherChecks}
 use Rattle.demands.specs.Holdings.{Stream, heldFrom, heldOf, total}
@@ -41,7 +39,6 @@ use Rattle.shared_demands.proofs.Fitting.{Told, told-zero, owed-fit}
 use Rattle.shared_demands.proofs.Standing.{Standing, standing-turned, standing, some, few}
 use Rattle.shared_demands.proofs.Rounds.{slot-served, then-turned, slot-runs, slots-full, round-ends, round-order}
 use Rattle.shared_demands.proofs.Damaging.{change-undamaged}
-use Rattle.shared_demands.proofs.Asking.{Rates}
 use Rattle.shared_demands.proofs.Serving.{Asked, asked-turned, asked, then-rates, Over, over-at, gives, serves-plain, over-holds, serves-over, serves-first, given-fair}
 -- ---- The calls: one that keeps its promise says, returns and leaves what the histories take it to
 

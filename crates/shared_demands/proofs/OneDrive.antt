@@ -3,7 +3,7 @@
 -- Assumes nothing.
 use mathlib.Core.Path.{_≡_, refl, sym, ap, subst, _∙_}
 use mathlib.Core.Bool.{true}
-use mathlib.Core.List.{List, [], _∷_}
+use mathlib.Core.List.{List, _∷_}
 use Prim.Native.Nat.{ℕ, zero, _+_, _-_, _*_, _/_, _≤_, _<_}
 use lib.ListN.{length, getD}
 use Rattle.calls.specs.Answers.{Answer}
@@ -16,7 +16,7 @@ use Rattle.waiting.specs.declared.Order.{Order}
 use Rattle.shares.specs.States.{fitting}
 use Rattle.shared_demands.specs.Turns.{Pair, This, Deed, Changes, Slots, answersOwn, Turn, Own, Other, leavesAll, namesServed, leavesGiven, FullRound}
 use Rattle.shared_demands.specs.Holding.{heldThrough, heldThen, askedThrough, askedThen, streamsOn, Ready, pieceBound}
-use Rattle.shared_demands.specs.Singles.{One, twice, leavesOne, leavesOnes, namesOne, givenOne, FullOne, inStep, turnsFor}
+use Rattle.shared_demands.specs.Singles.{One, twice, leavesOnes, namesOne, givenOne, FullOne, inStep, turnsFor}
 use Rattle.shared_demands.proofs.Checking.{share-lent}
 use Rattle.shared_demands.proofs.Single.{Fit, one-clear, step-clear, change-says, in-step, names-step, fit-always}
 use Rattle.shared_demands.proofs.Laws.{shared-undamaged, shared-held, shared-deficit, shared-zero, shared-leaves, shared-plain-serves, shared-holds, shared-serves, shared-first, shared-piece-fair}

@@ -1,25 +1,23 @@
 -- Demand 1 for a change and a slot with tables, on every input.
 -- Assumes nothing.
-use mathlib.Core.Path.{_≡_, refl, sym, ap, _∙_}
-use mathlib.Core.Bool.{Bool, true, false, not, _||_}
+use mathlib.Core.Path.{_≡_, refl}
+use mathlib.Core.Bool.{true, false, not, _||_}
 use mathlib.Core.List.{List, [], _∷_}
-use Prim.Native.Nat.{ℕ, max, _+_}
+use Prim.Native.Nat.{ℕ, max}
 use native.Mathlib.Omega.{arith}
 use lib.Dec.{eqb}
 use lib.ListN.{length}
 use borrow.Author.Tests.{eqb-true, ne-eqb}
+use Rattle.general.proofs.Laws.{by-bool}
 use Rattle.calls.specs.declared.Drive.{Drive}
-use Rattle.calls.specs.declared.Refusal.{Refusal}
 use Rattle.calls.specs.declared.Refusal.the-variants.{Damaged}
-use Rattle.calls.specs.declared.Check.{Check}
 use Rattle.calls.specs.declared.Check.the-variants.{Clear, Refused}
 use Rattle.calls.specs.Refusals.{numberOf, zeroOr, refuseIf, addCheck, removeCheck}
-use Rattle.calls.specs.Answers.{Answer, numberBy, answered}
-use Rattle.calls.specs.Results.{ifClear}
-use Rattle.calls.proofs.Laws.{by-bool, Within, covers, if-within, then-within, part-within, number-some, other-number}
+use Rattle.calls.specs.Answers.{Answer}
+use Rattle.calls.proofs.Laws.{Within, covers, if-within, then-within, part-within, other-number}
 use Rattle.tables.specs.Sharing.{heldFor}
 use Rattle.waiting.specs.declared.Order.{Order}
-use Rattle.waiting.specs.Layout.{tooShort, full, takenList, ordersIn}
+use Rattle.waiting.specs.Layout.{tooShort, full, takenList}
 use Rattle.orders.specs.declared.Way.{Way}
 use Rattle.orders.specs.declared.Way.the-variants as way
 use Rattle.orders.specs.Checks.{orderCheck, waitsIf}
@@ -31,7 +29,7 @@ use Rattle.shares.specs.Checks.{tooFew, shareCheck, wayOf}
 use Rattle.shares.specs.Results.{overOrder, onBoard, tableAfter, ratesAfter, carriedRates, carriedOwed, carriedState, stateBy}
 use Rattle.amended.specs.Deeds.{desk}
 use Rattle.amended.proofs.Laws as amended
-use Rattle.shared_demands.specs.Turns.{Pair, firstChecks, wayAt, Changes, Slots, answersOwn, stateAfter, listAfter}
+use Rattle.shared_demands.specs.Turns.{Pair, firstChecks, wayAt, Changes, Slots, answersOwn}
 use Rattle.shared_demands.specs.Refusing as refusing
 use Rattle.shared_demands.proofs.Checking.{by-check, now-both}
 

@@ -6,9 +6,9 @@ use mathlib.Core.Bool.{true, false}
 use mathlib.Core.List.{List, [], _∷_, _++_, map}
 use Prim.Native.Nat.{ℕ, zero, suc, _+_, _-_, _≤_, _<_}
 use native.Mathlib.Omega.{arith}
-use lib.ListN.{length, getD, take, replicate, length-append, length-replicate, getD-replicate}
-use borrow.Author.Tests.{ne-eqb}
-use Rattle.sequences.specs.Board.{leafAt, servedFrom, nextFrom}
+use lib.ListN.{length, replicate, length-append, length-replicate, getD-replicate}
+use Rattle.general.proofs.Laws.{by-bool}
+use Rattle.sequences.specs.Board.{nextFrom}
 use Rattle.sequences.specs.Serving.{leavesFrom, afterSlots}
 use Rattle.sequences.proofs.Laws.{after-more-slots, first-position}
 use Rattle.calls.specs.declared.Drive.{Drive}
@@ -16,10 +16,10 @@ use Rattle.calls.specs.declared.Check.{Check}
 use Rattle.calls.specs.declared.Check.the-variants.{Clear, Refused}
 use Rattle.calls.specs.Records.{roundAfter}
 use Rattle.calls.specs.Results.{ifClear, movedOn}
-use Rattle.calls.proofs.Laws.{by-bool, number-some}
+use Rattle.calls.proofs.Laws.{number-some}
 use Rattle.tables.specs.Turns.{namesAlong, roundServes}
 use Rattle.tables.proofs.Laws.{names-same, Zero}
-use Rattle.demands.specs.Histories.{Act, Slot, after, log}
+use Rattle.demands.specs.Histories.{Act, Slot, after}
 use Rattle.demands.specs.Histories as plainly
 use Rattle.demands.specs.Holdings.{Stream}
 use Rattle.demands.specs.Rounds.{namesFrom}
@@ -34,13 +34,13 @@ use Rattle.drives.specs.Checks.{bothStart}
 use Rattle.drives.proofs.Laws.{start-both, start-swap}
 use Rattle.shares.specs.States.{State}
 use Rattle.shares.specs.Results.{carriedState, doing, saying, ranList, stateBy, stateThen, listThen, turnName, turnState, servedAnswerBy, onBoard}
-use Rattle.amended.specs.Histories.{along, Each}
+use Rattle.amended.specs.Histories.{along}
 use Rattle.amended.proofs.Laws as amended
 use Rattle.shared_demands.specs.Turns.{Pair, exchanged, shown, firstChecks, wayAt, Deed, Changes, Slots, Fetches, answersOwn, leavesOwn, Turn, Own, Other, leaves, leavesAll, due, actsFor, standsFor, plain, nameIn, nameServed, namesServed, onLeaf, leafGiven, leavesGiven, FullRound}
 use Rattle.shared_demands.specs.Holding.{heldNext, heldThen}
 use Rattle.shared_demands.proofs.Checking.{now-both}
 use Rattle.shared_demands.proofs.Turning.{ranState', ranPlain, due-state, projected-one, given-one, all-so, shared-held}
-use Rattle.shared_demands.proofs.Fitting.{Owes, Told, start-none, told-zero, owed-fit}
+use Rattle.shared_demands.proofs.Fitting.{Told, start-none, told-zero, owed-fit}
 use Rattle.shared_demands.proofs.Standing.{Standing, standing-next, some, few, first-clear, ran-fine}
 
 module _ (hs : List Stream) (s : Pair) (is : Standing hs s) where

@@ -1,33 +1,31 @@
 -- What a drive serves in a full round: every stream that is over-allocated its r, every other its weight, and in the first of its leaves their share, rounded up.
 -- Assumes nothing.
 use mathlib.Core.Path.{_≡_, refl, sym, ap, subst, _∙_}
-use mathlib.Core.Bool.{true, false}
+use mathlib.Core.Bool.{true}
 use mathlib.Core.List.{List, [], _∷_, map}
 use Prim.Native.Nat.{ℕ, zero, suc, _+_, _-_, _*_, _/_, _≤_, _<_}
 use native.Mathlib.Omega.{arith}
 use native.Mathlib.Decide.{ℕ-discrete}
 use lib.Count.{ones}
 use lib.Dec.{eqb}
-use lib.ListN.{length, getD, take}
+use lib.ListN.{getD, take}
 use borrow.Author.Tests.{eq-eqb, ne-eqb}
 use Rattle.sequences.specs.Serving.{countList, leavesFrom}
 use Rattle.sequences.proofs.Laws.{count-map}
 use Rattle.pieces.specs.Board.{weight, number}
-use Rattle.calls.specs.Results.{slotNames, roundNames}
+use Rattle.calls.specs.Results.{slotNames}
 use Rattle.tables.specs.Sharing.{heldFor, lowest, ratesFit}
 use Rattle.tables.specs.Turns.{owedAt, nameAt, namesAlong, servedWeight}
-use Rattle.tables.proofs.Laws.{lowest-name, lowest-held, Rated, rated-at, zero-elim, round-serves, serves-along, one-piece, held-some}
+use Rattle.tables.proofs.Laws.{lowest-name, lowest-held, rated-at, zero-elim, round-serves, serves-along, one-piece, held-some}
 use Rattle.demands.specs.Holdings.{Stream, heldOf}
 use Rattle.demands.specs.Rounds.{times, inARow, Near, bound}
-use Rattle.demands.proofs.Laws.{Sound}
 use Rattle.shares.specs.States.{State}
-use Rattle.shares.specs.Results.{doing}
 use Rattle.amended.proofs.Laws as amended
-use Rattle.shared_demands.specs.Turns.{Pair, exchanged, shown, wayAt, Deed, Changes, Slots, Fetches, carriesOut, leavesOwn, Turn, Own, Other, leaves, leavesAll, due, plain, namesServed, leavesGiven, FullRound}
+use Rattle.shared_demands.specs.Turns.{Pair, exchanged, wayAt, Deed, Changes, Slots, Fetches, carriesOut, leavesOwn, Turn, Own, Other, leaves, leavesAll, due, plain, namesServed, leavesGiven, FullRound}
 use Rattle.shared_demands.specs.Holding.{heldThen, askedAll, askedOwn, askedNext, askedThrough, askedThen, streamsOn, Ready, pieceBound}
 use Rattle.shared_demands.proofs.Turning.{ranState', ranPlain, due-ran, way-state}
-use Rattle.shared_demands.proofs.Fitting.{Tabled, owed-fit}
-use Rattle.shared_demands.proofs.Asking.{rateIn, Rates, rate-held, all-asked}
+use Rattle.shared_demands.proofs.Fitting.{owed-fit}
+use Rattle.shared_demands.proofs.Asking.{Rates, rate-held, all-asked}
 use Rattle.shared_demands.proofs.Standing.{Standing, standing-turned, standing-next, ready-standing, some, few, first-clear, ran-fine}
 use Rattle.shared_demands.proofs.Rounds.{ran-sound, round-given, plain-round, ran-zero, along-round, round-order}
 

@@ -1,23 +1,20 @@
 -- What a single drive sees, its record in both places, is what one of two drives sees that take their slots in step.
 -- Assumes nothing.
 use mathlib.Core.Path.{_≡_, refl, sym, ap, ap₂, subst, _∙_}
-use mathlib.Core.Bool.{Bool, true, false, cond}
+use mathlib.Core.Bool.{true, false}
 use mathlib.Core.List.{List, [], _∷_, _++_}
-use Prim.Native.Nat.{ℕ, zero, _+_, _-_, _≤_, _<_}
+use Prim.Native.Nat.{ℕ, _-_, _≤_}
 use native.Mathlib.Omega.{arith}
 use native.Mathlib.Decide.{decLt}
 use lib.ListN.{length, getD, set, length-set}
 use lib.Seq.{getD-set-same, getD-set-other, set-getD}
 use borrow.Author.Tests.{lt-ltb, le-ltb, eq-eqb}
+use Rattle.general.proofs.Laws.{by-bool}
 use Rattle.pieces.specs.Board.{good}
 use Rattle.calls.specs.declared.Drive.{Drive}
-use Rattle.calls.specs.declared.Check.{Check}
 use Rattle.calls.specs.declared.Check.the-variants.{Clear, Refused}
-use Rattle.calls.specs.Answers.{Answer}
-use Rattle.calls.specs.Results.{ifClear, movedOn}
-use Rattle.calls.proofs.Laws.{by-bool}
+use Rattle.calls.specs.Results.{movedOn}
 use Rattle.tables.proofs.Laws.{fits-parts, fits-first, first-fits, fits-swap}
-use Rattle.demands.specs.Histories.{after}
 use Rattle.demands.specs.Histories as plainly
 use Rattle.demands.proofs.Laws.{stateAt, Valid, Sound, reached, moves, slot-clear}
 use Rattle.waiting.specs.declared.Order.{Order}
@@ -30,17 +27,16 @@ use Rattle.orders.specs.declared.Way.the-variants as way
 use Rattle.orders.specs.Results.{listBy}
 use Rattle.drives.specs.Checks.{bothStart}
 use Rattle.drives.proofs.Laws.{start-both}
-use Rattle.shares.specs.States.{State, lent, fitting}
+use Rattle.shares.specs.States.{State}
 use Rattle.shares.specs.Checks.{wayOf}
 use Rattle.shares.specs.Results.{carriedRates, carriedState, doing, saying, ranState, ranList, stateBy, stateThen, listThen, turnState}
 use Rattle.amended.specs.Deeds.{desk}
 use Rattle.amended.specs.Holding as holding
 use Rattle.amended.specs.Histories.{through, along}
 use Rattle.amended.proofs.Laws as amended
-use Rattle.shared_demands.specs.Turns.{Pair, exchanged, exchangedState, shown, firstChecks, wayAt, Deed, Changes, Slots, Fetches, answersOwn, nameOwn, givenOwn, leavesOwn, Turn, Own, Other, leaves, leavesAll, due, ifNow, standsFor, namesServed, leavesGiven, FullRound}
-use Rattle.shared_demands.specs.Holding.{Ready}
-use Rattle.shared_demands.specs.Singles.{One, twice, leavesOne, leavesOnes, namesOne, givenOne, FullOne, both, inStep, turnsFor}
-use Rattle.shared_demands.proofs.Checking.{Lent, share-lent, lent-share}
+use Rattle.shared_demands.specs.Turns.{Pair, exchanged, exchangedState, shown, firstChecks, wayAt, Deed, Changes, Slots, Fetches, answersOwn, nameOwn, givenOwn, Own, Other, leaves, leavesAll, due, ifNow, standsFor, namesServed, leavesGiven}
+use Rattle.shared_demands.specs.Singles.{One, twice, leavesOne, leavesOnes, namesOne, givenOne, both, inStep, turnsFor}
+use Rattle.shared_demands.proofs.Checking.{Lent, lent-share}
 use Rattle.shared_demands.proofs.Turning.{ranState', due-ran, way-state, projected-one}
 use Rattle.shared_demands.proofs.Fitting.{Tabled, all-tabled, turn-tabled}
 use Rattle.shared_demands.proofs.Standing.{list-length}

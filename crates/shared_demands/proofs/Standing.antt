@@ -2,26 +2,22 @@
 -- for a call of the own drive; for the other's the records and the deficits are exchanged.
 -- Assumes nothing.
 use mathlib.Core.Path.{_≡_, refl, sym, ap, subst, _∙_}
-use mathlib.Core.Bool.{true, false}
+use mathlib.Core.Bool.{true}
 use mathlib.Core.List.{List, [], _∷_}
 use Prim.Native.Nat.{ℕ, zero, _≤_, _<_}
 use native.Mathlib.Omega.{arith}
-use lib.ListN.{length, getD}
-use Rattle.sequences.specs.Board.{nextFrom}
+use lib.ListN.{length}
+use Rattle.general.proofs.Laws.{by-bool}
 use Rattle.pieces.specs.Board.{good}
-use Rattle.calls.specs.declared.Drive.{Drive}
-use Rattle.calls.specs.declared.Check.{Check}
 use Rattle.calls.specs.declared.Check.the-variants.{Clear, Refused}
-use Rattle.calls.specs.Results.{ifClear, movedOn}
-use Rattle.calls.proofs.Laws.{by-bool}
 use Rattle.tables.specs.Sharing.{allZero}
-use Rattle.tables.proofs.Laws.{zero-elim, fits-parts, Zero}
-use Rattle.demands.specs.Histories.{after, log}
+use Rattle.tables.proofs.Laws.{zero-elim, fits-parts}
+use Rattle.demands.specs.Histories.{after}
 use Rattle.demands.specs.Histories as plainly
-use Rattle.demands.specs.Holdings.{Stream, heldFrom}
-use Rattle.demands.proofs.Laws.{stateAt, Sound, reached, moves, slot-clear}
+use Rattle.demands.specs.Holdings.{Stream}
+use Rattle.demands.proofs.Laws.{Sound, reached, moves, slot-clear}
 use Rattle.waiting.specs.declared.Order.{Order}
-use Rattle.waiting.specs.Layout.{waiting, takenList}
+use Rattle.waiting.specs.Layout.{waiting}
 use Rattle.waiting.specs.Carrying.{carriedAll, outcomes}
 use Rattle.waiting.proofs.Laws.{run-length, fetch-length}
 use Rattle.orders.specs.declared.Way.{Way}
@@ -29,15 +25,15 @@ use Rattle.orders.specs.declared.Way.the-variants as way
 use Rattle.drives.specs.Checks.{bothStart}
 use Rattle.drives.proofs.Laws.{start-both}
 use Rattle.shares.specs.States.{State}
-use Rattle.shares.specs.Results.{carriedState, doing, saying, ranState, ranList, stateBy, stateThen, listThen, turnState}
+use Rattle.shares.specs.Results.{carriedState, doing, saying, ranState, ranList, stateBy, stateThen, listThen}
 use Rattle.amended.specs.Deeds.{desk}
 use Rattle.amended.specs.Holding.{onLeaves}
 use Rattle.amended.proofs.Laws as amended
 use Rattle.shared_demands.specs.Turns.{Pair, exchanged, exchangedState, shown, firstChecks, wayAt, Deed, Changes, Slots, Fetches, listAfter, leavesOwn, Turn, Own, Other, leaves, leavesAll, shared, standsFor}
 use Rattle.shared_demands.specs.Holding.{heldOwn, heldNext, heldThrough, streamsOn, Ready}
-use Rattle.shared_demands.proofs.Checking.{Lent, share-lent, lent-share, now-both}
+use Rattle.shared_demands.proofs.Checking.{share-lent, lent-share, now-both}
 use Rattle.shared_demands.proofs.Turning.{ranState', projected-one, shared-held, own-held}
-use Rattle.shared_demands.proofs.Fitting.{Tabled, Owes, Told, Tabling, tabling-turned, tabling-orders, tabling-turn}
+use Rattle.shared_demands.proofs.Fitting.{Told, Tabling, tabling-turned, tabling-orders, tabling-turn}
 
 -- ---- the list keeps its length
 

@@ -2,20 +2,20 @@
 -- stands for; and holds what that holds. Shown for the own drive; the other's is the same history with the records and the deficits exchanged.
 -- Assumes nothing.
 use mathlib.Core.Path.{_≡_, refl, sym, ap, _∙_}
-use mathlib.Core.Bool.{true, false}
+use mathlib.Core.Bool.{true}
 use mathlib.Core.List.{List, [], _∷_, map}
 use Prim.Native.Nat.{ℕ}
 use native.Mathlib.Omega.{arith}
 use lib.Dec.{eqb}
-use lib.ListN.{length, getD}
+use lib.ListN.{length}
+use Rattle.general.proofs.Laws.{by-bool}
 use Rattle.calls.specs.declared.Drive.{Drive}
 use Rattle.calls.specs.declared.Check.{Check}
 use Rattle.calls.specs.declared.Check.the-variants.{Clear, Refused}
 use Rattle.calls.specs.Refusals.{slotCheck}
-use Rattle.calls.specs.Answers.{answered}
-use Rattle.calls.specs.Results.{ifClear, movedOn, servedLeaf, servedPassed, servedRound}
-use Rattle.calls.proofs.Laws.{by-bool, number-some}
-use Rattle.demands.specs.Histories.{Act, Slot, says, after, log}
+use Rattle.calls.specs.Results.{ifClear, movedOn}
+use Rattle.calls.proofs.Laws.{number-some}
+use Rattle.demands.specs.Histories.{Slot, says, after, log}
 use Rattle.demands.specs.Histories as plainly
 use Rattle.demands.specs.Holdings.{Stream, heldFrom}
 use Rattle.demands.specs.Rounds.{names}
@@ -30,13 +30,13 @@ use Rattle.orders.proofs.Laws.{all-length}
 use Rattle.drives.specs.Checks.{bothStart}
 use Rattle.drives.proofs.Laws.{start-both, all-alike}
 use Rattle.shares.specs.States.{State}
-use Rattle.shares.specs.Results.{onBoard, carriedState, doing, ranState, stateBy, stateThen, turnName, turnState, servedAnswerBy}
+use Rattle.shares.specs.Results.{onBoard, carriedState, doing, ranState, stateBy, stateThen, turnState, servedAnswerBy}
 use Rattle.amended.specs.Histories.{through, along, following, Each}
 use Rattle.amended.specs.Carried.{actsOf}
 use Rattle.amended.proofs.Laws as amended
 use Rattle.shared_demands.specs.Turns.{Pair, exchanged, shown, firstChecks, wayAt, Deed, Changes, Slots, Fetches, leavesOwn, Turn, Own, Other, leaves, leavesAll, turnedAll, due, ifNow, carriesOut, actsFor, shared, alone, standsFor, plain, onLeaf, givenOwn, leafGiven, leavesGiven}
 use Rattle.shared_demands.specs.Holding.{heldOwn, heldNext, heldThrough}
-use Rattle.shared_demands.proofs.Checking.{Lent, share-lent, now-both}
+use Rattle.shared_demands.proofs.Checking.{share-lent, now-both}
 
 -- ---- the other drive's history
 

@@ -2,24 +2,21 @@
 -- those without, and the tables stay as they are.
 -- Assumes nothing.
 use mathlib.Core.Path.{_≡_, refl, sym, ap, ap₂, _∙_}
-use mathlib.Core.Bool.{Bool, true, false, not, _||_}
+use mathlib.Core.Bool.{Bool, true, false, _||_}
 use mathlib.Core.List.{List, [], _∷_}
 use Prim.Native.Nat.{ℕ, max, _<_}
-use native.Mathlib.Omega.{arith}
 use native.Mathlib.Decide.{ℕ-discrete}
-use lib.ListN.{getD, length}
+use lib.ListN.{length}
 use Rattle.pieces.specs.Board.{good}
 use Rattle.sequences.proofs.Laws.{leaf-below}
 use Rattle.tables.proofs.Laws.{Zero, plain-fits, plain-settled, plain-turn}
 use Rattle.calls.specs.declared.Drive.{Drive}
-use Rattle.calls.specs.declared.Refusal.the-variants.{Damaged}
 use Rattle.calls.specs.declared.Check.{Check}
 use Rattle.calls.specs.declared.Check.the-variants.{Clear, Refused}
-use Rattle.calls.specs.Refusals.{removeCheck, refuseIf, andThen}
+use Rattle.calls.specs.Refusals.{removeCheck}
 use Rattle.calls.specs.Results.{ifClear, removedBoard, servedLeaf}
-use Rattle.calls.proofs.Laws.{slot-position}
+use Rattle.calls.proofs.Laws.{slot-position, then-none}
 use Rattle.pieces.specs.Tidying as tidying
-use Rattle.tables.specs.Settling.{settledTable}
 use Rattle.waiting.specs.declared.Order.{Order}
 use Rattle.waiting.specs.declared.Outcome.{Outcome}
 use Rattle.waiting.specs.Layout.{tooShort, waiting, settled, takenList}
@@ -32,9 +29,9 @@ use Rattle.drives.specs.Checks as pair
 use Rattle.drives.specs.Checks.{pairCheck, bothStart}
 use Rattle.drives.specs.Results as drives
 use Rattle.drives.proofs.Laws.{pair-clear}
-use Rattle.shares.specs.States.{State, lent, fitting}
+use Rattle.shares.specs.States.{State, lent}
 use Rattle.shares.specs.Checks.{tooFew, shareCheck, listCheck, wayOf}
-use Rattle.shares.specs.Results.{onBoard, carried, tableAfter, carriedState, doing, saying, ranState, ranList, stateBy, changed, changedAnswer, changedState, changedList, stateIf, listIf, stateThen, listThen, turnState, servedBy, servedAnswerBy, served, servedAnswer, servedState, servedList}
+use Rattle.shares.specs.Results.{tableAfter, carriedState, doing, saying, ranState, ranList, stateBy, changed, changedAnswer, changedState, changedList, stateIf, listIf, stateThen, listThen, turnState, servedBy, servedAnswerBy, served, servedAnswer, servedState, servedList}
 use Rattle.shares.proofs.Doings.{same-lent, on-plain, remove-state, plain-state}
 
 -- No order of the list is an over-allocated add.
@@ -45,10 +42,6 @@ Plainly (o ∷ os) = (o .kind ≡ 3 → ⊥) × Plainly os
 or-false : (t : Bool) → (t || false) ≡ t
 or-false true = refl
 or-false false = refl
-
-then-none : (k : Check) → andThen k Clear ≡ k
-then-none Clear = refl
-then-none (Refused r) = refl
 
 -- ---- tables of zeros
 

@@ -1,21 +1,19 @@
 -- What the calls with tables answer: the numbers that each part of their checks may find, and what a change that is not done leaves as it was.
 -- Assumes nothing.
-use mathlib.Core.Path.{_≡_, refl, sym, ap, subst, _∙_}
+use mathlib.Core.Path.{_≡_, refl, ap, _∙_}
 use mathlib.Core.Bool.{Bool, true, not, _||_}
 use mathlib.Core.List.{List, [], _∷_}
 use Prim.Native.Nat.{ℕ, max}
-use native.Mathlib.Omega.{arith}
 use native.Mathlib.Decide.{ℕ-discrete}
 use lib.ListN.{length}
+use Rattle.general.proofs.Laws.{by-bool}
 use Rattle.tables.specs.Sharing.{heldFor}
 use Rattle.calls.specs.declared.Drive.{Drive}
 use Rattle.calls.specs.declared.Refusal.the-variants.{Damaged}
-use Rattle.calls.specs.declared.Check.{Check}
 use Rattle.calls.specs.declared.Check.the-variants.{Clear}
 use Rattle.calls.specs.Refusals.{zeroOr, refuseIf, askedAdd, askedName, addMay, removeMay, addCheck, removeCheck}
-use Rattle.calls.specs.Answers.{Answer}
 use Rattle.calls.specs.Results as calls
-use Rattle.calls.proofs.Laws.{by-bool, refusal, Within, then-within, if-within, covers, part-within, ascending}
+use Rattle.calls.proofs.Laws.{refusal, Within, then-within, if-within, covers, part-within, ascending}
 use Rattle.waiting.specs.declared.Order.{Order}
 use Rattle.waiting.specs.Layout.{tooShort, full, takenList}
 use Rattle.orders.specs.declared.Way.{Way}

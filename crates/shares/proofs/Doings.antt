@@ -1,19 +1,20 @@
 -- What an order of each kind does to a state and says; that it keeps the tables long enough and fitting the board; and what the code of the changes needs.
 -- Assumes nothing.
 use mathlib.Core.Path.{_≡_, refl, sym, ap, _∙_}
-use mathlib.Core.Bool.{Bool, true, false, cond, _||_}
-use mathlib.Core.List.{List, [], _∷_, map}
-use Prim.Native.Nat.{ℕ, zero, suc, min, _≤_, _<_}
+use mathlib.Core.Bool.{Bool, true, false, _||_}
+use mathlib.Core.List.{List, [], _∷_}
+use Prim.Native.Nat.{ℕ, min, _≤_, _<_}
 use native.Mathlib.Omega.{arith}
 use native.Mathlib.Decide.{decLt, ℕ-discrete}
 use lib.Dec.{eqb, ltb}
 use lib.ListN.{length}
-use borrow.Author.Tests.{eq-eqb, ne-eqb, eqb-true, eqb-false, lt-ltb, ltb-false}
+use borrow.Author.Tests.{ne-eqb, lt-ltb, ltb-false}
+use Rattle.general.proofs.Laws.{by-bool}
 use Rattle.pieces.specs.Board.{weight}
 use Rattle.pieces.specs.Placing.{placed}
 use Rattle.pieces.specs.Tidying as tidying
 use Rattle.pieces.proofs.Laws.{weight-le, placed-weight}
-use Rattle.tables.specs.Sharing.{heldFor, fits}
+use Rattle.tables.specs.Sharing.{heldFor}
 use Rattle.tables.specs.Settling.{settledTable, ratedTable, Alike}
 use Rattle.tables.proofs.Laws.{placed-fits, over-fits, removed-fits, settled-length, settled-told, rated-length}
 use Rattle.calls.specs.declared.Drive.{Drive}
@@ -27,7 +28,7 @@ use Rattle.calls.specs.Refusals.{numberOf, applies, firstOf, slotCheck, addChec
 use Rattle.calls.specs.Results as calls
 use Rattle.calls.specs.Results.{ifClear, admittedBy, changeBy}
 use Rattle.calls.specs.Promises as promised
-use Rattle.calls.proofs.Laws.{by-bool, Sized, slot-sized, slot-parts, open-sized, then-clear, add-clear, add-weight, remove-clear}
+use Rattle.calls.proofs.Laws.{Sized, slot-sized, slot-parts, open-sized, then-clear, add-clear, add-weight, remove-clear}
 use Rattle.calls.specs.Refusals.{openCheck, positionCheck}
 use Rattle.waiting.specs.declared.Order.{Order}
 use Rattle.waiting.specs.Carrying.{carriedAll}

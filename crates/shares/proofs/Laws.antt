@@ -1,11 +1,12 @@
 -- The laws of the calls with tables that upper crates cite: no second answer fits; what a refusal and a wait leave as it was; that every call keeps the tables
 -- fitting the board; what is known once the checks are clear; and that without over-allocated streams the calls are those without tables.
 -- Assumes nothing.
-use mathlib.Core.Path.{_≡_, refl, sym, ap, _∙_}
-use mathlib.Core.Bool.{true, false}
+use mathlib.Core.Path.{_≡_, refl, ap, _∙_}
+use mathlib.Core.Bool.{true}
 use mathlib.Core.List.{List, [], _∷_}
-use Prim.Native.Nat.{ℕ, _≤_, _<_}
+use Prim.Native.Nat.{ℕ, _≤_}
 use lib.ListN.{getD, length}
+use Rattle.general.proofs.Laws.{unique}
 use Rattle.tables.specs.Sharing.{lowest}
 use Rattle.tables.proofs.Laws.{lowest-held, turn-fits}
 use Rattle.calls.specs.declared.Drive.{Drive}
@@ -18,7 +19,7 @@ use Rattle.calls.specs.declared.Serving.the-variants as serving
 use Rattle.calls.specs.Refusals.{zeroOr}
 use Rattle.calls.specs.Answers.{Answer, servingAnswer}
 use Rattle.calls.specs.Results.{servedLeaf}
-use Rattle.calls.proofs.Laws.{unique, Refuses, refuses, refusal, leaf-held}
+use Rattle.calls.proofs.Laws.{Refuses, refuses, refusal, leaf-held}
 use Rattle.waiting.specs.declared.Order.{Order}
 use Rattle.waiting.specs.Layout.{tooShort, taken, takenList}
 use Rattle.orders.specs.declared.Ordered.{Ordered}

@@ -5,19 +5,19 @@ use mathlib.Core.Bool.{Bool, true, false, not, _||_}
 use mathlib.Core.List.{List, [], _∷_}
 use Prim.Native.Nat.{ℕ, max, _≤_}
 use native.Mathlib.Omega.{arith}
-use lib.Dec.{eqb, ltb}
+use lib.Dec.{ltb}
 use lib.ListN.{length}
 use borrow.Author.Tests.{ltb-false, eq-eqb, not-false}
+use Rattle.general.proofs.Laws.{neither}
 use Rattle.pieces.specs.Board.{good}
-use Rattle.tables.specs.Sharing.{fits}
 use Rattle.tables.proofs.Laws.{fits-parts}
 use Rattle.calls.specs.declared.Drive.{Drive}
 use Rattle.calls.specs.declared.Refusal.{Refusal}
 use Rattle.calls.specs.declared.Refusal.the-variants.{Damaged}
 use Rattle.calls.specs.declared.Check.{Check}
 use Rattle.calls.specs.declared.Check.the-variants.{Clear, Refused}
-use Rattle.calls.specs.Refusals.{applies, refuseIf, andThen, goodCheck, changeCheck}
-use Rattle.calls.proofs.Laws.{by-bool, first-clear, then-clear, slot-sized, change-parts}
+use Rattle.calls.specs.Refusals.{refuseIf, goodCheck, changeCheck}
+use Rattle.calls.proofs.Laws.{first-clear, then-clear, slot-sized, change-parts, refuse-clear}
 use Rattle.waiting.specs.declared.Order.{Order}
 use Rattle.waiting.specs.Layout.{tooShort, ordersIn}
 use Rattle.orders.specs.Checks.{wordsCheck, orderCheck, waitsIf, wayBy}
@@ -28,14 +28,6 @@ use Rattle.drives.specs.Checks.{pairCheck, bothStart}
 use Rattle.drives.proofs.Laws.{Paired, pair-clear, start-both, way-now}
 use Rattle.shares.specs.States.{State, fitting}
 use Rattle.shares.specs.Checks.{tooFew, shareCheck, listCheck, wayOf, Ready}
-
-refuse-clear : (t : Bool) (r : Refusal) (k : Check) → refuseIf t r k ≡ Clear → (t ≡ false) × (k ≡ Clear)
-refuse-clear true r k e = let z : _≡_ {A = ℕ} 0 1 = cc in absurd (omega arith)
-refuse-clear false r k e = (refl, e)
-
-neither : (s t : Bool) → (s || t) ≡ false → (s ≡ false) × (t ≡ false)
-neither true t e = let z : _≡_ {A = ℕ} 0 1 = cc in absurd (omega arith)
-neither false t e = (refl, e)
 
 -- ---- no table is too short
 

@@ -1,9 +1,9 @@
 -- The run of the list: one place more, all places by the counts that the code has, and what is known of the state that it leaves.
 -- Assumes nothing.
-use mathlib.Core.Path.{_≡_, refl, sym, ap, ap₂, subst, _∙_}
+use mathlib.Core.Path.{_≡_, sym, ap, ap₂, subst, _∙_}
 use mathlib.Core.Bool.{Bool, true, false}
 use mathlib.Core.List.{List}
-use Prim.Native.Nat.{ℕ, _+_, _-_, _≤_, _<_}
+use Prim.Native.Nat.{ℕ, _+_, _-_, _<_}
 use Rattle.calls.specs.declared.Drive.{Drive}
 use Rattle.waiting.specs.Layout.{answersIn, ordersIn, orderAt, waiting, counted, answeredAt}
 use Rattle.waiting.proofs.Laws.{stateFrom, listFrom, state-next, list-next, state-all, list-all}

@@ -5,7 +5,7 @@ use mathlib.Core.Bool.{Bool}
 use mathlib.Core.List.{List, [], _∷_}
 use Prim.Native.Nat.{ℕ, _≤_, _<_}
 use native.Mathlib.Omega.{arith}
-use lib.ListN.{getD, length}
+use lib.ListN.{length}
 use Rattle.sequences.proofs.Laws.{leaf-below}
 use Rattle.tables.specs.Turns.{Shared, nameAt, owedAt}
 use Rattle.tables.proofs.Laws.{fits-shared}

@@ -6,6 +6,7 @@ use mathlib.Core.List.{List, [], _∷_}
 use Prim.Native.Nat.{ℕ}
 use lib.Dec.{eqb, ltb}
 use lib.ListN.{length, length-replicate}
+use Rattle.general.proofs.Laws.{unique}
 use Rattle.calls.specs.Records.{driveAt}
 use Rattle.calls.specs.Refusals.{Asked, refuseIf, andThen, firstOf, zeroOr, numbers, among, asked, askedOpen, askedOutput, openMay, openCheck, goodCheck}
 use Rattle.calls.specs.declared.Drive.{Drive}
@@ -13,7 +14,7 @@ use Rattle.calls.specs.declared.Refusal.{Refusal}
 use Rattle.calls.specs.declared.Refusal.the-variants.{Capacity, Short, Damaged, Output, Block}
 use Rattle.calls.specs.declared.Check.{Check}
 use Rattle.calls.specs.declared.Check.the-variants.{Clear}
-use Rattle.calls.proofs.Laws.{unique, Refuses, refuses, refusal, may, first-among, Within, within-among, first-within, then-within, if-within, covers, part-within}
+use Rattle.calls.proofs.Laws.{Refuses, refuses, refusal, may, first-among, Within, within-among, first-within, then-within, if-within, covers, part-within}
 use Rattle.sheets.specs.declared.Saved.{Saved}
 use Rattle.sheets.specs.declared.Saving.{Saving}
 use Rattle.sheets.specs.declared.Loaded.{Loaded}

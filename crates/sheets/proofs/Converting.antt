@@ -1,22 +1,20 @@
 -- What a conversion makes of the sheet that it reads, and that there and back gives the same sheet. Assumes nothing.
 use mathlib.Core.Path.{_≡_, refl, sym, ap, _∙_}
-use mathlib.Core.Bool.{Bool, true, false, not}
+use mathlib.Core.Bool.{true}
 use mathlib.Core.List.{List, _++_}
 use Prim.Native.Nat.{ℕ, _*_, _≤_, _<_}
 use native.Mathlib.Omega.{arith}
-use lib.Dec.{eqb, ltb}
-use lib.ListN.{length, take, drop, replicate, length-append, length-replicate, List·getD-append}
+use lib.ListN.{length, take, drop, replicate}
 use lib.Seq.{take-at, take-all}
 use borrow.Author.Tests.{lt-ltb, le-ltb, eq-eqb, ne-eqb}
 use Rattle.pieces.specs.Board.{good}
-use Rattle.pieces.proofs.Laws.{good-same}
-use Rattle.calls.specs.Refusals.{refuseIf, andThen, openCheck}
+use Rattle.calls.specs.Refusals.{andThen}
 use Rattle.calls.specs.Results.{ifClear}
 use Rattle.calls.specs.declared.Refusal.{Refusal}
 use Rattle.calls.specs.declared.Refusal.the-variants.{Midround, Output}
 use Rattle.calls.specs.declared.Check.{Check}
 use Rattle.calls.specs.declared.Check.the-variants.{Clear, Refused}
-use Rattle.calls.proofs.Laws.{Sized, first-clear, then-clear, open-clear}
+use Rattle.calls.proofs.Laws.{Sized, first-clear, open-clear}
 use Rattle.sheets.specs.declared.Saving.{Saving}
 use Rattle.sheets.specs.declared.Saving.the-variants as saving
 use Rattle.sheets.specs.Blocks.{Bytes, Words}

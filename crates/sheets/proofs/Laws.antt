@@ -2,7 +2,7 @@
 -- other's sheets, that a conversion there and back gives the same bytes, that no second answer keeps a promise, that a refusal leaves everything as it was,
 -- and that a call answers only what it may. Assumes nothing.
 use mathlib.Core.Path.{_≡_, refl, sym, ap, subst, _∙_}
-use mathlib.Core.Bool.{Bool, true, false, not}
+use mathlib.Core.Bool.{true, false, not}
 use mathlib.Core.List.{List, [], _∷_, _++_}
 use Prim.Native.Nat.{ℕ, suc, _+_, _-_, _*_, _/_, _^_, _≤_, _<_}
 use native.Mathlib.Omega.{arith}
@@ -10,6 +10,7 @@ use native.Mathlib.Decide.{decLt}
 use lib.Dec.{eqb}
 use lib.ListN.{length, getD, take, drop, List·getD-eq-default}
 use borrow.Author.Tests.{le-ltb}
+use Rattle.general.proofs.Laws.{never}
 use Rattle.pieces.specs.Board.{good}
 use Rattle.pieces.specs.Listing.{namedPieces}
 use Rattle.sequences.specs.Board.{digits}
@@ -28,7 +29,7 @@ use Rattle.sheets.specs.declared.Saving.the-variants as saving
 use Rattle.sheets.specs.declared.Loaded.{Loaded}
 use Rattle.sheets.specs.declared.Loading.the-variants as loading
 use Rattle.sheets.specs.Blocks.{Bytes, Words, listed, bytesOf, numberAt, block, stack}
-use Rattle.sheets.specs.Sheet.{blocks, leafOf, page, sheet, capacityIn, place, leafIn, leavesIn, laid, Layout}
+use Rattle.sheets.specs.Sheet.{blocks, leafOf, page, sheet, capacityIn, leafPlace, leafIn, sheetLeaves, laid, Layout}
 use Rattle.sheets.specs.Entries.{entryBlocks, entryPage, entryBytes, entrySheet, positionIn, spelled, keeps}
 use Rattle.sheets.specs.Forms.{Form, savingAnswer, readMay, startCheck, heldCheck, readingCheck, savedAs, savedAnswerAs, savedOutputAs, loadedAs, loadedAnswerAs, loadedBoardAs, loadingAnswer}
 use Rattle.sheets.specs.Results.{leafForm, pieceForm, saveMay, savePiecesMay, saveCheck, saved, savedAnswer, savedOutput, readCheck, loaded, loadedAnswer, loadedBoard}
@@ -72,10 +73,6 @@ sheet-first : (C : ℕ) (s : List ℕ) → 0 < C → Layout C s → numberAt s 0
 unfolding blocks
 sheet-first C s pos l = l .number 0 (omega arith)
 
-not-laid : (b : Bool) → (b ≡ true → ⊥) → b ≡ false
-not-laid true h = absurd (h refl)
-not-laid false h = refl
-
 -- C = 253 needs one block, C = 254 two, C = 4,095 seventeen.
 pub blocks-worked : (blocks 253 ≡ 1) × (blocks 254 ≡ 2) × (blocks 4095 ≡ 17)
 unfolding blocks
@@ -83,20 +80,20 @@ blocks-worked = (refl, refl, refl)
 
 -- The test of read is that the bytes are the sheet of the leaves that they hold.
 module _ (C : ℕ) (s : List ℕ) (bytes : Bytes s) where
-  pub laid-sheet : laid C s ≡ true → s ≡ sheet C (leavesIn C s)
+  pub laid-sheet : laid C s ≡ true → s ≡ sheet C (sheetLeaves C s)
   laid-sheet h = layout-sheet C s bytes (laid-layout C s h)
 
-  leaves-words : Words (leavesIn C s)
-  unfolding leavesIn leafIn
+  leaves-words : Words (sheetLeaves C s)
+  unfolding sheetLeaves leafIn
   leaves-words i = elim (decLt i C) [
-    | yes h ↦ rw (listed-at (leafIn s) 0 C i h) (number-small s (place (0 + i)) bytes)
+    | yes h ↦ rw (listed-at (leafIn s) 0 C i h) (number-small s (leafPlace (0 + i)) bytes)
     | no h ↦
-        let past : length (leavesIn C s) ≤ i = omega (arith, leaves-length C s) in
-        rw (List·getD-eq-default (leavesIn C s) 0 past) (omega arith)
+        let past : length (sheetLeaves C s) ≤ i = omega (arith, leaves-length C s) in
+        rw (List·getD-eq-default (sheetLeaves C s) 0 past) (omega arith)
   ]
 
-  pub sheet-laid : C < 65536 → s ≡ sheet C (leavesIn C s) → laid C s ≡ true
-  sheet-laid few e = subst (λ (q : List ℕ). laid C q ≡ true) (sym e) (layout-laid C (sheet C (leavesIn C s)) (sheet-layout C (leavesIn C s) few leaves-words))
+  pub sheet-laid : C < 65536 → s ≡ sheet C (sheetLeaves C s) → laid C s ≡ true
+  sheet-laid few e = subst (λ (q : List ℕ). laid C q ≡ true) (sym e) (layout-laid C (sheet C (sheetLeaves C s)) (sheet-layout C (sheetLeaves C s) few leaves-words))
 
 -- The leaf form is exact, and saved at p = 1 alone.
 pub leaves-exact : Exact leafForm (λ C p. p ≡ 1)
@@ -128,10 +125,10 @@ module _ (d : Drive) (B O L : List ℕ) (n : ℕ) (words : Words B) (done : save
 
 -- What read accepts is a board that passes the checks: long enough, and good. L is the board lent to read.
 module _ (s L : List ℕ) (accepted : readCheck s L ≡ Clear) where
-  pub read-sized : Sized (capacityIn s) (leavesIn (capacityIn s) s ++ drop (capacityIn s) L)
+  pub read-sized : Sized (capacityIn s) (sheetLeaves (capacityIn s) s ++ drop (capacityIn s) L)
   read-sized = accepted-sized leafForm (λ C p. p ≡ 1) leaves-exact s L accepted
 
-  pub read-good : good (capacityIn s) (leavesIn (capacityIn s) s ++ drop (capacityIn s) L) ≡ true
+  pub read-good : good (capacityIn s) (sheetLeaves (capacityIn s) s ++ drop (capacityIn s) L) ≡ true
   read-good = accepted-good leafForm (λ C p. p ≡ 1) leaves-exact s L accepted
 
 -- Demand 2: whatever bytes read accepts are the very bytes that save writes for the board that it sets. L is the board lent to read, O an output with room.
@@ -200,7 +197,7 @@ pub old-reader : (C p : ℕ) (B L : List ℕ) → let s = entrySheet C p B in
 old-reader C p B L =
     let s = entrySheet C p B in
     let other : 0 < capacityIn s → laid (capacityIn s) s ≡ false =
-    λ h. not-laid (laid (capacityIn s) s) (λ t. let z = sheet-first (capacityIn s) s h (laid-layout (capacityIn s) s t) in omega (arith, z, entry-zero C p B))
+    λ h. never (laid (capacityIn s) s) (λ t. let z = sheet-first (capacityIn s) s h (laid-layout (capacityIn s) s t) in omega (arith, z, entry-zero C p B))
     in
     (other-check leafForm s L other, other-board leafForm s L other)
 
@@ -211,7 +208,7 @@ new-reader C B L some few words =
     let s = sheet C B in
     let first = sheet-first C s some (sheet-layout C B few words) in
     let other : 0 < capacityIn s → keeps (capacityIn s) s ≡ false =
-    λ h. not-laid (keeps (capacityIn s) s) (λ t.
+    λ h. never (keeps (capacityIn s) s) (λ t.
     let e = kept-parts (capacityIn s) s t .1 in
     omega (arith, first, ap (λ (q : List ℕ). numberAt q 0) e, entry-zero (capacityIn s) (positionIn s) (spelled (capacityIn s) s)))
     in

@@ -1,26 +1,22 @@
 -- A board's sheet of pieces put into an output, and what save makes of it. Assumes nothing.
 use mathlib.Core.Path.{_≡_, refl, sym, ap, _∙_}
-use mathlib.Core.Bool.{Bool, true, false, not}
-use mathlib.Core.List.{List, [], _∷_, _++_}
+use mathlib.Core.Bool.{Bool, true, false}
+use mathlib.Core.List.{List, _++_}
 use Prim.Native.Nat.{ℕ, _*_, _≤_, _<_}
-use lib.Dec.{ltb}
 use lib.ListN.{length, drop, replicate, length-replicate}
 use lib.Seq.{sets}
 use borrow.Author.Tests.{lt-ltb, le-ltb}
 use Rattle.pieces.specs.Board.{good}
 use Rattle.pieces.specs.Listing.{namedPieces}
-use Rattle.calls.specs.Refusals.{andThen, refuseIf, slotCheck, goodCheck}
-use Rattle.calls.specs.Answers.{answered}
-use Rattle.calls.specs.Results.{ifClear}
+use Rattle.calls.specs.Refusals.{andThen, slotCheck, goodCheck}
 use Rattle.calls.specs.declared.Drive.{Drive}
 use Rattle.calls.specs.declared.Refusal.{Refusal}
 use Rattle.calls.specs.declared.Refusal.the-variants.{Output, Damaged, Block}
 use Rattle.calls.specs.declared.Check.{Check}
 use Rattle.calls.specs.declared.Check.the-variants.{Clear, Refused}
-use Rattle.sheets.specs.declared.Saved.{Saved}
 use Rattle.sheets.specs.declared.Saving.{Saving}
 use Rattle.sheets.specs.declared.Saving.the-variants as saving
-use Rattle.sheets.specs.Entries.{entryBlocks, entryBytes, entrySheet, spelled, keeps}
+use Rattle.sheets.specs.Entries.{entryBlocks, entryBytes, spelled, keeps}
 use Rattle.sheets.specs.Forms.{Puts, roomCheck, heldCheck, sizeOf}
 use Rattle.sheets.specs.Results.{pieceForm}
 use Rattle.sheets.specs.Promises.{SavesPieces}

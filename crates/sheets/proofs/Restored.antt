@@ -1,38 +1,33 @@
 -- The sheet of a board's pieces spells the board, and so the piece form is exact. Assumes nothing.
 use mathlib.Core.Path.{_≡_, refl, sym, ap, _∙_}
-use mathlib.Core.Bool.{Bool, true, false, not, _&&_, cond}
-use mathlib.Core.List.{List, [], _∷_, _++_}
+use mathlib.Core.Bool.{true, false}
+use mathlib.Core.List.{List, [], _∷_}
 use Prim.Native.Nat.{ℕ, zero, suc, _+_, _-_, _*_, _^_, _/_, _%_, _≤_, _<_}
 use native.Mathlib.Nat.{zero-add, add-zero, mul-mod-left, two-pow-succ}
 use native.Mathlib.Omega.{arith}
 use native.Mathlib.Decide.{decLt, ℕ-discrete}
-use lib.Dec.{eqb, ltb}
-use lib.ListN.{length, getD, take, replicate, length-append, length-replicate, getD-replicate, length-take, List·getD-append, List·getD-eq-default}
-use lib.Pow.{pow-pos}
+use lib.ListN.{length, getD, take, replicate, length-append, length-replicate, List·getD-append, List·getD-eq-default}
 use lib.Seq.{ext-getD, getD-append-add, getD-take, length-take-le, take-length, take-all}
-use borrow.Author.Tests.{eqb-true, le-ltb}
-use Rattle.pieces.specs.Board.{good, whole}
+use borrow.Author.Tests.{le-ltb}
+use Rattle.general.proofs.Laws.{by-bool, and-left, and-right}
+use Rattle.pieces.specs.Board.{whole}
 use Rattle.pieces.specs.Placing.{fill}
 use Rattle.pieces.specs.Listing.{entry, named, namedPieces}
-use Rattle.pieces.proofs.Laws.{by-bool, whole-elim, whole-end, leaf-whole, named-past, named-run, named-halves, named-same, named-few, named-words, fill-length, fill-inside, fill-outside}
-use Rattle.sequences.specs.Board.{digits}
+use Rattle.pieces.proofs.Laws.{whole-elim, whole-end, leaf-whole, named-past, named-run, named-halves, named-same, named-few, named-words, fill-length, fill-inside, fill-outside}
 use Rattle.sequences.proofs.Laws.{digits-le}
 use Rattle.calls.specs.Records.{driveAt}
-use Rattle.calls.specs.Refusals.{refuseIf, andThen, slotCheck, openCheck, positionCheck, goodCheck}
-use Rattle.calls.specs.declared.Drive.{Drive}
-use Rattle.calls.specs.declared.Refusal.the-variants.{Output}
+use Rattle.calls.specs.Refusals.{openCheck, positionCheck}
 use Rattle.calls.specs.declared.Check.{Check}
 use Rattle.calls.specs.declared.Check.the-variants.{Clear, Refused}
-use Rattle.calls.proofs.Laws.{Sized, first-clear, then-clear, open-sized, slot-sized, slot-parts, slot-position}
-use Rattle.sheets.specs.Blocks.{Bytes, Words, listed, total, numberAt}
+use Rattle.calls.proofs.Laws.{Sized, then-clear, open-sized, slot-sized, slot-parts, slot-position}
+use Rattle.sheets.specs.Blocks.{Words, listed, sumOf, numberAt}
 use Rattle.sheets.specs.Sheet.{leafOf, capacityIn}
 use Rattle.sheets.specs.Entries.{entryBlocks, entryPage, entryBytes, entrySheet, positionIn, entryIn, fits, spell, spelled, same, isClear, keeps}
-use Rattle.sheets.specs.Forms.{sizeOf, savingCheck}
+use Rattle.sheets.specs.Forms.{sizeOf}
 use Rattle.sheets.specs.Results.{pieceForm}
-use Rattle.sheets.proofs.Lists.{and-left, and-right, listed-at}
+use Rattle.sheets.proofs.Lists.{listed-at}
 use Rattle.sheets.proofs.Pages.{number-written, capacity-written, held-written, sum-written}
-use Rattle.sheets.proofs.Layouts.{leaf-before, leaf-after}
-use Rattle.sheets.proofs.Spelling.{heldEntries, entryNumber, entries-full, entry-bytes-taken, entry-sheet-length, fits-idle, fits-intro, spell-more, spell-stop, spell-end, spelled-length, same-true, true-same}
+use Rattle.sheets.proofs.Spelling.{heldEntries, entryNumber, entries-full, entry-sheet-length, fits-idle, fits-intro, spell-more, spell-stop, spell-end, spelled-length, same-true, true-same}
 use Rattle.sheets.proofs.Checked.{good-check, entry-parts, entry-slot, entry-good, entry-room}
 use Rattle.sheets.proofs.Trips.{Exact}
 
@@ -237,12 +232,6 @@ module _ (C p : ℕ) (B : List ℕ) (sized : Sized C B) (words : Words B) (at : 
       rw (listed-at (leafOf (length (namedPieces C B)) (namedPieces C B)) (252 * b) 252 j k, list-word (252 * b + j))
       (named-words C B words (sized .few) 12 0 (omega arith) (252 * b + j))
 
-  pub entry-first : numberAt (entrySheet C p B) 0 ≡ 32768
-  unfolding entrySheet entryBytes entryPage entryBlocks
-  entry-first =
-      let L = namedPieces C B in
-      number-written entryNumber C (heldEntries p (length L) L) (entries-full C p (length L) L) (entryBlocks (length L)) low numbers-low held-low 0 (omega arith)
-
   pub entry-capacity : capacityIn (entrySheet C p B) ≡ C
   unfolding capacityIn entrySheet entryBytes entryPage entryBlocks
   entry-capacity =
@@ -275,7 +264,7 @@ module _ (C p : ℕ) (B : List ℕ) (sized : Sized C B) (words : Words B) (at : 
         let L = namedPieces C B in
         held-written entryNumber C (heldEntries p (length L) L) (entries-full C p (length L) L) (entryBlocks (length L)) low numbers-low held-low b 0 h (omega arith)
 
-    pub block-total : total (listed (numberAt (entrySheet C p B)) (256 * b) 256) % 65536 ≡ 0
+    pub block-total : sumOf (listed (numberAt (entrySheet C p B)) (256 * b) 256) % 65536 ≡ 0
     unfolding entrySheet entryBytes entryPage
     block-total =
         let L = namedPieces C B in

@@ -11,7 +11,7 @@ use Rattle.calls.specs.declared.Drive.{Drive}
 use Rattle.calls.specs.declared.Refusal.{Refusal}
 use Rattle.calls.specs.declared.Refusal.the-variants.{Capacity, Short, Position, Midround, Damaged, Output}
 use Rattle.calls.specs.declared.Check.{Check}
-use Rattle.sheets.specs.Sheet.{blocks, sheet, leavesIn, laid}
+use Rattle.sheets.specs.Sheet.{blocks, sheet, sheetLeaves, laid}
 use Rattle.sheets.specs.Entries.{entryBlocks, entrySheet, positionIn, spelled, keeps}
 pub use Rattle.sheets.specs.Forms.{savingAnswer, loadingAnswer, savingBy, loadingBy, askedSheet, blockCheck, startCheck, readMay}
 use Rattle.sheets.specs.Forms.{Form, savingCheck, savedAs, savedAnswerAs, savedOutputAs, readingCheck, loadedAs, loadedAnswerAs, loadedBoardAs}
@@ -30,7 +30,7 @@ leafForm = record {
   size = λ C B. 512 * blocks C;
   laid = laid;
   position = λ s. 1;
-  leaves = leavesIn;
+  leaves = sheetLeaves;
 }
 
 abbrev pub saveCheck : Drive → List ℕ → ℕ → Check

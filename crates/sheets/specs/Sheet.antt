@@ -5,7 +5,7 @@ use mathlib.Core.List.{List, [], _∷_}
 use Prim.Native.Nat.{ℕ, _+_, _-_, _*_, _/_, _%_, _≤_, _<_}
 use lib.Dec.{eqb}
 use lib.ListN.{length, getD, take}
-use Rattle.sheets.specs.Blocks.{listed, every, total, bytesOf, numberAt, block, stack, sealed}
+use Rattle.sheets.specs.Blocks.{listed, every, sumOf, bytesOf, numberAt, block, stack, sealed}
 
 -- C/253, rounded up
 unfoldable pub blocks : ℕ → ℕ
@@ -24,20 +24,20 @@ unfoldable pub sheet : ℕ → List ℕ → List ℕ
 sheet C B = bytesOf (stack (page C B) 0 (blocks C))
 
 -- which number of a sheet leaf i is: in block i / 253, after the block number and C
-unfoldable pub place : ℕ → ℕ
-place i = 256 * (i / 253) + (2 + i % 253)
+unfoldable pub leafPlace : ℕ → ℕ
+leafPlace i = 256 * (i / 253) + (2 + i % 253)
 
 -- leaf i of a sheet
 unfoldable pub leafIn : List ℕ → ℕ → ℕ
-leafIn s i = numberAt s (place i)
+leafIn s i = numberAt s (leafPlace i)
 
 -- C of block 0
 unfoldable pub capacityIn : List ℕ → ℕ
 capacityIn s = numberAt s 1
 
 -- the C leaves
-unfoldable pub leavesIn : ℕ → List ℕ → List ℕ
-leavesIn C s = listed (leafIn s) 0 C
+unfoldable pub sheetLeaves : ℕ → List ℕ → List ℕ
+sheetLeaves C s = listed (leafIn s) 0 C
 
 -- what stands after the last leaf, to the end of the last block's 253 numbers
 unfoldable pub restIn : ℕ → List ℕ → List ℕ
@@ -48,18 +48,18 @@ unfoldable pub numbered : List ℕ → ℕ → ℕ → Bool
 numbered s C b = sealed s b b C
 
 -- each number is 0
-unfoldable pub zeros : List ℕ → Bool
-zeros [] = true
-zeros (n ∷ ns) = eqb n 0 && zeros ns
+unfoldable pub eachZero : List ℕ → Bool
+eachZero [] = true
+eachZero (n ∷ ns) = eqb n 0 && eachZero ns
 
 -- the test of read: the length is that of the blocks needed, no block has a wrong number, C or sum, and the rest is zero
 unfoldable pub laid : ℕ → List ℕ → Bool
-laid C s = eqb (length s) (512 * blocks C) && (every (numbered s C) 0 (blocks C) && zeros (restIn C s))
+laid C s = eqb (length s) (512 * blocks C) && (every (numbered s C) 0 (blocks C) && eachZero (restIn C s))
 
 -- the same in the words of document 01, block by block
 pub record Layout (C : ℕ) (s : List ℕ) : Type 0 where
   pub long : length s ≡ 512 * blocks C
   pub number : (b : ℕ) → b < blocks C → numberAt s (256 * b) ≡ b
   pub capacity : (b : ℕ) → b < blocks C → numberAt s (256 * b + 1) ≡ C
-  pub sum : (b : ℕ) → b < blocks C → total (listed (numberAt s) (256 * b) 256) % 65536 ≡ 0
+  pub sum : (b : ℕ) → b < blocks C → sumOf (listed (numberAt s) (256 * b) 256) % 65536 ≡ 0
   pub rest : (b i : ℕ) → b < blocks C → i < 253 → C ≤ 253 * b + i → numberAt s (256 * b + (2 + i)) ≡ 0

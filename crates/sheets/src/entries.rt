@@ -1,7 +1,7 @@
 // The form of sheet that lists the pieces: what its blocks hold, written, read and tested.
 ghost use mathlib.Core.Path.{_≡_};
 ghost use mathlib.Core.List.{_++_};
-ghost use Prim.Native.Nat.{_+_, _*_, _/_, _≤_, _<_};
+ghost use Prim.Native.Nat.{ℕ, _+_, _*_, _/_, _%_, _^_, _≤_, _<_};
 ghost use lib.Dec.{eqb};
 ghost use lib.ListN.{length, getD, drop, replicate};
 ghost use lib.Seq.{sets};
@@ -66,12 +66,15 @@ pub fn write_sheet(list: &[u16], n: usize, c: usize, p: usize, output: &mut [u8]
     }
 }
 
-// Number i of the entries.
-fn entry_number(sheet: &[u8], i: usize) -> usize
-    requires { ⌜ i < 252 * (length (now sheet) / 512) ⌝ }
-    ensures { λ r. ⌜ (r ≡ sheets.entryIn (now (sheet .entry)) i) × (r < 65536) ⌝ }
+// Where the entry stands that comes after the one at the number q: after a block's last entry come its sum and the next block's number, C and p.
+fn next_entry(q: usize) -> usize
+    requires { ⌜ q + 7 < 2 ^ 64 ⌝ }
+    ensures { λ r. ⌜ ((i : ℕ) → q ≡ 256 * (i / 84) + (3 + 3 * (i % 84)) → r ≡ 256 * ((i + 1) / 84) + (3 + 3 * ((i + 1) % 84))) ⌝ }
 {
-    blocks::number_at(sheet, 256 * (i / PER_BLOCK) + (3 + i % PER_BLOCK))
+    if q % 256 == 252 {
+        return q + 7;
+    }
+    q + 3
 }
 
 // Whether an entry can be read after others that end at a leaf.
@@ -102,15 +105,17 @@ pub fn spell(sheet: &[u8], c: usize, board: &mut [u16])
 {
     let m = 84 * (sheet.len() / 512);
     let mut at: usize = 0;
+    let mut q: usize = 3;
     let mut i: usize = 0;
     while i < m {
-        let x = entry_number(sheet, 3 * i);
-        let a = entry_number(sheet, 3 * i + 1);
-        let l = entry_number(sheet, 3 * i + 2);
+        let x = blocks::number_at(sheet, q);
+        let a = blocks::number_at(sheet, q + 1);
+        let l = blocks::number_at(sheet, q + 2);
         if fits(c, at, x, a, l) {
             let size = pieces::size_of(l);
             pieces::fill(board, a, size, x as u16);
             at = a + size;
+            q = next_entry(q);
             i += 1;
         } else {
             return;
@@ -118,21 +123,21 @@ pub fn spell(sheet: &[u8], c: usize, board: &mut [u16])
     }
 }
 
-// Whether bytes are the first of some others.
+// Whether bytes are the first of some others. Those that agree are counted, so that the compiler compares several at once.
 fn starts(sheet: &[u8], bytes: &[u8]) -> bool
-    requires { ⌜ length (now sheet) ≤ length (now bytes) ⌝ }
+    requires { ⌜ (length (now sheet) ≤ length (now bytes)) × (length (now bytes) ≤ 25088) ⌝ }
     ensures { λ r. ⌜ r ≡ every (λ i. eqb (getD (now (sheet .entry)) i 0) (getD (now (bytes .entry)) i 0)) 0 (length (now (sheet .entry))) ⌝ }
 {
     let n = sheet.len();
+    let mut k: u16 = 0;
     let mut i: usize = 0;
     while i < n {
         if sheet[i] == bytes[i] {
-            i += 1;
-        } else {
-            return false;
+            k += 1;
         }
+        i += 1;
     }
-    true
+    k as usize == n
 }
 
 // Whether bytes are the sheet of a board at p.

@@ -5,7 +5,7 @@ ghost use Prim.Native.Nat.{_*_, _≤_, _<_};
 ghost use lib.ListN.{length, drop, replicate};
 ghost use Rattle.calls.specs.Refusals.{goodCheck, slotCheck, andThen};
 ghost use Rattle.calls.specs.Results.{ifClear};
-ghost use Rattle.sheets.specs.Sheet.{blocks, leavesIn};
+ghost use Rattle.sheets.specs.Sheet.{blocks, sheetLeaves};
 ghost use Rattle.sheets.specs.Forms.{Puts, Holds, readingCheck, loadedBoardAs};
 ghost use Rattle.sheets.specs.Results.{leafForm, pieceForm, startCheck, readCheck, loadedBoard, saveCheck, writtenCheck};
 ghost use Rattle.sheets.specs.Promises.{Saves, Loads, SavesPieces, LoadsPieces};
@@ -51,7 +51,7 @@ fn no_leaves() -> [u16; 4095]
 // board gets them.
 fn load_leaves(sheet: &[u8], c: usize, board: &mut [u16]) -> Check
     requires { ⌜ (c ≤ length (now board)) × (c ≤ 4095) × (512 * blocks c ≤ length (now sheet)) ⌝ }
-    ensures { λ r. ⌜ (r ≡ goodCheck c (leavesIn c (now (sheet .entry)))) × (now (board .exit) ≡ ifClear r (leavesIn c (now (sheet .entry)) ++ drop c (now (board .entry))) (now (board .entry))) ⌝ }
+    ensures { λ r. ⌜ (r ≡ goodCheck c (sheetLeaves c (now (sheet .entry)))) × (now (board .exit) ≡ ifClear r (sheetLeaves c (now (sheet .entry)) ++ drop c (now (board .entry))) (now (board .entry))) ⌝ }
 {
     let mut scratch = no_leaves();
     leaves::read_leaves(sheet, c, &mut scratch);

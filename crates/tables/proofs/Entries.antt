@@ -11,14 +11,14 @@ use lib.Dec.{eqb}
 use lib.ListN.{getD, set, length, length-set, List·getD-eq-default}
 use lib.Seq.{getD-set-same, getD-set-other, set-getD}
 use borrow.Author.Tests.{eq-eqb, ne-eqb, eqb-true, lt-ltb, le-ltb, ltb-true}
+use Rattle.general.proofs.Laws.{clash, both, by-bool}
 use Rattle.pieces.specs.Board.{weight, good}
 use Rattle.pieces.proofs.Laws.{weight-le}
-use Rattle.calls.proofs.Laws.{by-bool}
 use Rattle.tables.specs.Sharing.{heldFor, lowest, leads, every, allZero, rateFits, ratesFit, owedFits, owedFit, allOwedFit, fits}
 use Rattle.tables.specs.Settling.{written, settledAt, settledTable, Alike}
 use Rattle.tables.specs.Looking.{sumOf, Skipped, passing}
 use Rattle.tables.proofs.Holding.{held-zero, held-some}
-use Rattle.tables.proofs.Leading.{clash, and-both, leads-name, leads-yes, lowest-same}
+use Rattle.tables.proofs.Leading.{leads-name, leads-yes, lowest-same}
 
 -- ---- written
 
@@ -73,7 +73,7 @@ module _ (f : ℕ → Bool) where
   unfolding every
   every-elim zero i t h = absurd (omega arith)
   every-elim (suc n) i t h =
-      let b = and-both (every f n) (f n) t in
+      let b = both (every f n) (f n) t in
       elim (ℕ-discrete i n) [
         | yes r ↦ rw r (b .1)
         | no r ↦ every-elim n i (b .0) (omega arith)
@@ -203,7 +203,7 @@ module _ (C : ℕ) (B T : List ℕ) (i : ℕ) where
   unfolding rateFits
   rate-rated t n =
       let g = rw (ne-eqb (getD T i 0) 0 n) at t in
-      let b = and-both (leads C B i) (eqb (weight C B (getD B i 0)) (heldFor (getD T i 0))) g in
+      let b = both (leads C B i) (eqb (weight C B (getD B i 0)) (heldFor (getD T i 0))) g in
       let l = leads-name C B i (b .0) in
       record { named = l .0; low = l .1; holds = eqb-true (weight C B (getD B i 0)) (heldFor (getD T i 0)) (b .1) }
 
@@ -270,14 +270,14 @@ module _ (C : ℕ) (T T′ : List ℕ) where
   unfolding allOwedFit
   all-owed f h [] t = refl
   all-owed f h (E ∷ Es) t =
-      let b = and-both (owedFit C T E) (allOwedFit C T Es) t in
+      let b = both (owedFit C T E) (allOwedFit C T Es) t in
       rw (h E (b .0), all-owed f h Es (b .1)) refl
 
   pub all-owed-same : ((E : List ℕ) → owedFit C T E ≡ true → owedFit C T′ E ≡ true) → (Es : List (List ℕ)) → allOwedFit C T Es ≡ true → allOwedFit C T′ Es ≡ true
   unfolding allOwedFit
   all-owed-same h [] t = refl
   all-owed-same h (E ∷ Es) t =
-      let b = and-both (owedFit C T E) (allOwedFit C T Es) t in
+      let b = both (owedFit C T E) (allOwedFit C T Es) t in
       rw (h E (b .0), all-owed-same h Es (b .1)) refl
 
 module _ (C : ℕ) (B T : List ℕ) where
@@ -285,8 +285,8 @@ module _ (C : ℕ) (B T : List ℕ) where
   pub fits-parts : (Es : List (List ℕ)) → fits C B T Es ≡ true → (good C B ≡ true) × (ratesFit C B T ≡ true) × (allOwedFit C T Es ≡ true)
   unfolding fits
   fits-parts Es t =
-      let b = and-both (good C B) (ratesFit C B T && allOwedFit C T Es) t in
-      let c = and-both (ratesFit C B T) (allOwedFit C T Es) (b .1) in
+      let b = both (good C B) (ratesFit C B T && allOwedFit C T Es) t in
+      let c = both (ratesFit C B T) (allOwedFit C T Es) (b .1) in
       (b .0, c .0, c .1)
 
   pub parts-fit : (Es : List (List ℕ)) → good C B ≡ true → ratesFit C B T ≡ true → allOwedFit C T Es ≡ true → fits C B T Es ≡ true
@@ -303,7 +303,7 @@ module _ (C : ℕ) (B T : List ℕ) where
   unfolding allOwedFit
   fits-first E Es t =
       let p = fits-parts (E ∷ Es) t in
-      let b = and-both (owedFit C T E) (allOwedFit C T Es) (p .2) in
+      let b = both (owedFit C T E) (allOwedFit C T Es) (p .2) in
       (b .0, parts-fit Es (p .0) (p .1) (b .1))
 
   pub first-fits : (E : List ℕ) (Es : List (List ℕ)) → owedFit C T E ≡ true → fits C B T Es ≡ true → fits C B T (E ∷ Es) ≡ true

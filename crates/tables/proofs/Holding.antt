@@ -54,11 +54,6 @@ held-least r m h l =
       | no q ↦ rw (p .1) (pow-mono {i = p .0} {j = m} (omega arith))
     ]
 
--- It fits in 17 binary digits.
-pub held-small : (r : ℕ) → r ≤ 65535 → heldFor r ≤ 65536
-held-small zero h = rw held-zero (omega arith)
-held-small (suc n) h = held-least (suc n) 16 (omega arith) (omega arith)
-
 -- As code has it.
 digits-word : (n : ℕ) → n < 65536 → digits n ≤ 16
 unfolding digits

@@ -10,11 +10,13 @@ use lib.Dec.{eqb}
 use lib.ListN.{getD, length, length-set}
 use lib.Seq.{getD-set-same, getD-set-other, set-out}
 use borrow.Author.Tests.{eq-eqb, ne-eqb}
-use Rattle.pieces.specs.Board.{bit, weight, good}
+use Rattle.general.specs.Tests.{one}
+use Rattle.general.proofs.Laws.{by-bool}
+use Rattle.pieces.specs.Board.{weight, good}
 use Rattle.pieces.specs.Placing.{Placeable, placed}
 use Rattle.pieces.specs.Tidying.{Removable, removed}
 use Rattle.pieces.proofs.Laws.{placed-good, placed-weight, placed-others, placed-leaf, removed-good, removed-name, removed-others}
-use Rattle.calls.proofs.Laws.{by-bool, leaf-held}
+use Rattle.calls.proofs.Laws.{leaf-held}
 use Rattle.tables.specs.Sharing.{heldFor, lowest, leads, ratesFit, owedFit, allOwedFit, fits}
 use Rattle.tables.specs.Settling.{clearedTable, ratedTable, settledTable}
 use Rattle.tables.specs.Turns.{owedNext, turnOwed}
@@ -25,8 +27,8 @@ use Rattle.tables.proofs.Entries.{written-length, written-beyond, writt
 -- ---- a name that keeps its leaves and gains none
 
 module _ (B B′ : List ℕ) (y : ℕ) (keeps : (j : ℕ) → getD B j 0 ≡ y → getD B′ j 0 ≡ y) where
-  bit-keeps : (j : ℕ) → bit (eqb (getD B j 0) y) ≤ bit (eqb (getD B′ j 0) y)
-  bit-keeps j = elim (ℕ-discrete (getD B j 0) y) [
+  one-keeps : (j : ℕ) → one (eqb (getD B j 0) y) ≤ one (eqb (getD B′ j 0) y)
+  one-keeps j = elim (ℕ-discrete (getD B j 0) y) [
     | yes r ↦ rw (eq-eqb (getD B j 0) y r, eq-eqb (getD B′ j 0) y (keeps j r)) (omega arith)
     | no r ↦ rw (ne-eqb (getD B j 0) y r) (omega arith)
   ]
@@ -36,7 +38,7 @@ module _ (B B′ : List ℕ) (y : ℕ) (keeps : (j : ℕ) → getD B j 0 ≡ y �
   gains zero n h = let e : n ≡ 0 = omega arith in rw e (omega arith)
   gains (suc m) n h = elim (ℕ-discrete n (suc m)) [
     | yes r ↦ rw r (omega arith)
-    | no r ↦ omega (arith, gains m n (omega arith), bit-keeps m)
+    | no r ↦ omega (arith, gains m n (omega arith), one-keeps m)
   ]
 
   kept-before : (C i : ℕ) → i ≤ C → weight C B′ y ≡ weight C B y → weight i B y ≡ 0 → weight i B′ y ≡ 0

@@ -20,7 +20,7 @@ use Rattle.tables.proofs.Turning as turning
 use Rattle.tables.proofs.Serves as serves
 -- ---- R: not below r, less than 2 r, a power of two, the smallest that is not below r
 
-pub use Rattle.tables.proofs.Holding.{held-zero, held-some, held-above, held-below, held-power, held-least, held-small}
+pub use Rattle.tables.proofs.Holding.{held-zero, held-some, held-above, held-below, held-power, held-least}
 -- ---- turns of a stream of weight r, from a deficit of -v: n of them leave it at -(owedFrom r v n), above -R and at most 0, and serve servesFrom r v n times. From 0
 -- that is n r / R, rounded up; R turns serve r times and leave the deficit as it was.
 

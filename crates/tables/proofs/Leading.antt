@@ -1,7 +1,7 @@
 -- The lowest leaf of a name, told by how many leaves before a leaf hold the name.
 -- Assumes nothing.
 use mathlib.Core.Path.{_≡_, refl, ap}
-use mathlib.Core.Bool.{Bool, true, false, not, _&&_}
+use mathlib.Core.Bool.{Bool, true, false, not}
 use mathlib.Core.List.{List}
 use Prim.Native.Nat.{ℕ, zero, suc, _+_, _≤_, _<_}
 use native.Mathlib.Omega.{arith}
@@ -9,17 +9,11 @@ use native.Mathlib.Decide.{decLt, ℕ-discrete}
 use lib.Dec.{eqb}
 use lib.ListN.{getD}
 use borrow.Author.Tests.{eq-eqb, ne-eqb, eqb-true, eqb-false}
+use Rattle.general.proofs.Laws.{clash, both, by-bool}
 use Rattle.pieces.specs.Board.{weight}
 use Rattle.pieces.specs.Placing.{first}
-use Rattle.calls.proofs.Laws.{by-bool, held-leaf, leaf-held}
+use Rattle.calls.proofs.Laws.{held-leaf, leaf-held}
 use Rattle.tables.specs.Sharing.{lowest, leads}
-
-pub clash : {P : Type 0} {b : Bool} → b ≡ true → b ≡ false → P
-clash t f = let z : _≡_ {A = ℕ} 0 1 = cc in absurd (omega arith)
-
-pub and-both : (a b : Bool) → (a && b) ≡ true → (a ≡ true) × (b ≡ true)
-and-both true b e = (refl, e)
-and-both false b e = clash e refl
 
 -- ---- the first number that passes a test
 
@@ -127,7 +121,7 @@ module _ (C : ℕ) (B : List ℕ) (i : ℕ) where
   pub leads-name : leads C B i ≡ true → (getD B i 0 ≡ 0 → ⊥) × (lowest C B (getD B i 0) ≡ i)
   unfolding leads
   leads-name t =
-      let b = and-both (not (eqb (getD B i 0) 0)) (eqb (lowest C B (getD B i 0)) i) t in
+      let b = both (not (eqb (getD B i 0) 0)) (eqb (lowest C B (getD B i 0)) i) t in
       ((λ z. clash (b .0) (ap not (eq-eqb (getD B i 0) 0 z))), eqb-true (lowest C B (getD B i 0)) i (b .1))
 
   pub leads-yes : (getD B i 0 ≡ 0 → ⊥) → lowest C B (getD B i 0) ≡ i → leads C B i ≡ true

@@ -10,9 +10,9 @@ use native.Mathlib.Decide.{decLt, ℕ-discrete}
 use lib.Dec.{eqb}
 use lib.ListN.{getD, length}
 use borrow.Author.Tests.{eq-eqb, ne-eqb, lt-ltb, le-ltb}
+use Rattle.general.proofs.Laws.{by-bool}
 use Rattle.names.specs.Table.{Entered, numberOf}
 use Rattle.pieces.specs.Board.{weight, good}
-use Rattle.calls.proofs.Laws.{by-bool}
 use Rattle.tables.specs.Sharing.{heldFor, lowest, leads, rateFits}
 use Rattle.tables.specs.Settling.{written, settledAt, settledTable}
 use Rattle.tables.specs.Looking.{rateTest, mark, marked, Marks, unmet, origin, fetched, Origins}

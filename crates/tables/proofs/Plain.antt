@@ -8,10 +8,10 @@ use native.Mathlib.Omega.{arith}
 use native.Mathlib.Decide.{decLt}
 use lib.ListN.{getD, replicate}
 use borrow.Author.Tests.{lt-ltb, le-ltb}
+use Rattle.general.proofs.Laws.{by-bool}
 use Rattle.sequences.specs.Board.{Position}
 use Rattle.pieces.specs.Board.{weight, good}
 use Rattle.calls.specs.Results.{slotNames, roundNames}
-use Rattle.calls.proofs.Laws.{by-bool}
 use Rattle.tables.specs.Sharing.{lowest, leads, fits}
 use Rattle.tables.specs.Settling.{clearedTable, settledAt, settledTable}
 use Rattle.tables.specs.Turns.{roundServes, servedWeight}

@@ -9,9 +9,11 @@ use native.Mathlib.Decide.{ℕ-discrete}
 use lib.Dec.{eqb, ltb}
 use lib.ListN.{getD, length, replicate, length-replicate, getD-replicate}
 use borrow.Author.Tests.{eq-eqb, ne-eqb}
-use Rattle.sequences.specs.Serving.{one, countList, leavesFrom}
+use Rattle.general.specs.Tests.{one}
+use Rattle.general.proofs.Laws.{by-bool}
+use Rattle.sequences.specs.Serving.{countList, leavesFrom}
 use Rattle.pieces.specs.Board.{weight}
-use Rattle.calls.proofs.Laws.{by-bool, leaves-times}
+use Rattle.calls.proofs.Laws.{leaves-times}
 use Rattle.tables.specs.Sharing.{heldFor, lowest, ratesFit}
 use Rattle.tables.specs.Turns.{owedNext, turnName, nameAt, owedAt, namesAlong, owedAlong, roundServes, servedWeight}
 use Rattle.tables.proofs.Holding.{owedFrom, servesFrom, held-some, serves-ceiling, serves-whole}

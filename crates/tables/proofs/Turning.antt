@@ -4,7 +4,7 @@ use mathlib.Core.Path.{_≡_, refl, sym, ap, ap₂, _∙_}
 use mathlib.Core.Bool.{true, false, not, _&&_}
 use mathlib.Core.List.{List, [], _∷_, _++_, map, append-assoc}
 use mathlib.Core.Logic.{inl, inr, ⊎-elim}
-use Prim.Native.Nat.{ℕ, zero, suc, _+_, _-_, _*_, _/_, _%_, _^_, _≤_, _<_}
+use Prim.Native.Nat.{ℕ, zero, suc, _+_, _*_, _/_, _%_, _^_, _≤_, _<_}
 use native.Mathlib.Nat.{mod-eq-of-lt}
 use native.Mathlib.Numerals.{add-one}
 use native.Mathlib.Omega.{arith}
@@ -14,6 +14,7 @@ use lib.ListN.{length, getD, set, drop, replicate, length-replicate, getD-replic
 use lib.Pow.{pow-mono, split}
 use lib.Seq.{drop-cons, set-at}
 use borrow.Author.Tests.{eq-eqb, ne-eqb, eqb-true}
+use Rattle.general.proofs.Laws.{clash, both}
 use Rattle.sequences.specs.Board.{leafAt, servedFrom, nextFrom, Position}
 use Rattle.sequences.specs.Serving.{leavesFrom, afterSlots}
 use Rattle.sequences.proofs.Laws.{leaf-below, next-position, leaves-length, leaves-more}
@@ -23,7 +24,7 @@ use Rattle.tables.specs.Sharing.{heldFor, lowest}
 use Rattle.tables.specs.Turns.{turnName, turnOwed, nameAt, owedAt, namesAlong, owedAlong, roundServes, Shared}
 use Rattle.tables.specs.Looking.{Decides}
 use Rattle.tables.proofs.Holding.{held-power}
-use Rattle.tables.proofs.Leading.{clash, and-both, lowest-name, lowest-at}
+use Rattle.tables.proofs.Leading.{lowest-name, lowest-at}
 use Rattle.tables.proofs.Powers.{power-lowest}
 use Rattle.tables.proofs.Entries.{rated-at, held-le}
 use Rattle.tables.proofs.Keeping.{turn-length, turn-other, turn-none, turn-own}
@@ -37,7 +38,7 @@ start-le a m = omega (arith, split a m)
 -- A leaf tested for an r and a name.
 rated-yes : (r y x : ℕ) → (not (eqb r 0) && eqb y x) ≡ true → (r ≡ 0 → ⊥) × (y ≡ x)
 rated-yes r y x t =
-    let b = and-both (not (eqb r 0)) (eqb y x) t in
+    let b = both (not (eqb r 0)) (eqb y x) t in
     ((λ z. clash (b .0) (ap not (eq-eqb r 0 z))), eqb-true y x (b .1))
 
 rated-no : (r y x : ℕ) → (not (eqb r 0) && eqb y x) ≡ false → (r ≡ 0 → ⊥) → y ≡ x → ⊥

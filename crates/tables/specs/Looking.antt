@@ -6,9 +6,10 @@ use mathlib.Core.List.{List}
 use mathlib.Core.Logic.{_⊎_}
 use Prim.Native.Nat.{ℕ, zero, suc, _+_, _-_, _%_, _≤_, _<_}
 use lib.Dec.{eqb, ltb}
-use lib.ListN.{getD, length}
+use lib.ListN.{getD}
+use Rattle.general.specs.Tests.{one}
 use Rattle.names.specs.Table.{Table, numberOf}
-use Rattle.pieces.specs.Board.{bit, weight}
+use Rattle.pieces.specs.Board.{weight}
 use Rattle.tables.specs.Sharing.{heldFor, lowest, leads}
 use Rattle.tables.specs.Settling.{settledAt}
 
@@ -28,7 +29,7 @@ pub record Skipped (C : ℕ) (T : List ℕ) (i j : ℕ) : Type 0 where
 -- How many numbers below n pass the test f.
 unfoldable pub passing : (ℕ → Bool) → ℕ → ℕ
 passing f zero = 0
-passing f (suc n) = passing f n + bit (f n)
+passing f (suc n) = passing f n + one (f n)
 
 -- An entry r at leaf i, which holds x, as the weights S by name tell it: 0, or that of a stream of R leaves that start at a multiple of R.
 unfoldable pub rateTest : List ℕ → ℕ → ℕ → ℕ → Bool

@@ -12,6 +12,7 @@ use lib.Dec.{eqb, ltb}
 use lib.ListN.{length, getD, set}
 use lib.Pow.{pow-pos}
 use borrow.Author.Tests.{eq-eqb, ne-eqb, ltb-false}
+use Rattle.general.proofs.Laws.{neither}
 use Rattle.calls.specs.Refusals.{applies, askedOpen, openCheck}
 use Rattle.calls.specs.declared.Refusal.the-variants.{Capacity, Short}
 use Rattle.calls.specs.declared.Check.the-variants as check
@@ -86,10 +87,6 @@ pub record Walkable (C : ℕ) (B : List ℕ) (m : ℕ) : Type 0 where
   pub opens : openCheck C B ≡ check.Clear
   pub long : C ≤ length B
   pub marked : C - 1 ≤ m
-
-neither : (a b : Bool) → (a || b) ≡ false → (a ≡ false) × (b ≡ false)
-neither true b e = let z : _≡_ {A = ℕ} 0 1 = cc in absurd (omega arith)
-neither false b e = (refl, e)
 
 passed : (b : Bool) (f g : Finding) → (f ≡ Clear → ⊥) → cond b f g ≡ Clear → (b ≡ false) × (g ≡ Clear)
 passed true f g n e = absurd (n e)

@@ -13,6 +13,7 @@ use lib.Dec.{ltb}
 use lib.ListN.{length, getD}
 use lib.Seq.{ext-getD}
 use borrow.Author.Tests.{ne-eqb, le-ltb}
+use Rattle.general.proofs.Laws.{unique, by-bool}
 use Rattle.sequences.specs.Sequences.{rb}
 use Rattle.sequences.specs.Board.{digits, Position, leafAt, servedFrom, nextFrom}
 use Rattle.sequences.specs.Serving.{leavesFrom, afterSlots}
@@ -24,7 +25,7 @@ use Rattle.calls.specs.Records.{driveAt}
 use Rattle.calls.specs.Refusals.{zeroOr, applies, askedOpen, openCheck, slotCheck, positionCheck}
 use Rattle.calls.specs.Results.{movedOn, servedAnswer}
 use Rattle.calls.specs.declared.Refusal.the-variants.{Capacity, Short}
-use Rattle.calls.proofs.Laws.{by-bool, slot-parts, unique, Refuses, refuses}
+use Rattle.calls.proofs.Laws.{slot-parts, Refuses, refuses}
 use Rattle.tree.specs.Marks.{levels, leafOf, marksOf, leavesOf, marksAfter, AllClear}
 use Rattle.tree.specs.Literal.{leafBelow, marksBelow}
 use Rattle.tree.specs.Results.{finding, finds, numberBy, ifMade, walkMay, walkingAnswer, walkedAnswer}

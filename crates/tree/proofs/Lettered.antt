@@ -10,10 +10,10 @@ use lib.ListN.{getD, set}
 use lib.Pow.{pow-pos}
 use borrow.Author.Tests.{eq-eqb, ne-eqb}
 use Rattle.tree.specs.Marks.{flipped, below, nodeFrom, marksFrom}
-use Rattle.tree.specs.Literal.{place, child, leafBelow, marksBelow}
+use Rattle.tree.specs.Literal.{markPlace, child, leafBelow, marksBelow}
 
 -- the children of v(l, i), by their numbers
-below-child : (m l i : ℕ) → below m (place l i) ≡ place (suc l) (child m i)
+below-child : (m l i : ℕ) → below m (markPlace l i) ≡ markPlace (suc l) (child m i)
 below-child m l i =
     let p = pow-pos l in
     elim (ℕ-discrete m 0) [
@@ -22,19 +22,19 @@ below-child m l i =
     ]
 
 -- d levels down from v(l, i)
-pub node-literal : (d : ℕ) (M : List ℕ) (l i : ℕ) → nodeFrom d M (place l i) ≡ place (l + d) (leafBelow d M l i)
+pub node-literal : (d : ℕ) (M : List ℕ) (l i : ℕ) → nodeFrom d M (markPlace l i) ≡ markPlace (l + d) (leafBelow d M l i)
 unfolding nodeFrom leafBelow
 node-literal zero M l i = rw (add-zero l) refl
 node-literal (suc d) M l i =
-    let m = getD M (place l i) 0 in
-    let N = set M (place l i) (flipped m) in
+    let m = getD M (markPlace l i) 0 in
+    let N = set M (markPlace l i) (flipped m) in
     let e : l + suc d ≡ suc l + d = omega arith in
     rw (below-child m l i, e) (node-literal d N (suc l) (child m i))
 
-pub marks-literal : (d : ℕ) (M : List ℕ) (l i : ℕ) → marksFrom d M (place l i) ≡ marksBelow d M l i
+pub marks-literal : (d : ℕ) (M : List ℕ) (l i : ℕ) → marksFrom d M (markPlace l i) ≡ marksBelow d M l i
 unfolding marksFrom marksBelow
 marks-literal zero M l i = refl
 marks-literal (suc d) M l i =
-    let m = getD M (place l i) 0 in
-    let N = set M (place l i) (flipped m) in
+    let m = getD M (markPlace l i) 0 in
+    let N = set M (markPlace l i) (flipped m) in
     rw (below-child m l i) (marks-literal d N (suc l) (child m i))

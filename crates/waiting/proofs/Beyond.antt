@@ -6,13 +6,13 @@ use Prim.Native.Nat.{ℕ, zero, suc, _+_, _-_, _*_, _≤_, _<_}
 use native.Mathlib.Omega.{arith}
 use lib.ListN.{length, getD, set, length-set}
 use lib.Seq.{getD-set-other}
-use borrow.Author.Tests.{le-ltb}
+use Rattle.general.proofs.Laws.{by-bool}
 use Rattle.waiting.specs.declared.Order.{Order}
 use Rattle.waiting.specs.declared.Outcome.{Outcome}
 use Rattle.waiting.specs.declared.Found.{Found}
 use Rattle.waiting.specs.declared.Found.the-variants as place
 use Rattle.waiting.specs.Layout.{lastTicket, answersIn, ordersIn, placesIn, tooShort, full, putAt, joined, takenList, answeredAt, answeredFrom, settled, found, lowered, without, fetchedBy, fetchedList, emptied}
-use Rattle.waiting.proofs.Listing.{either, places-most, found-below}
+use Rattle.waiting.proofs.Listing.{places-most, found-below}
 use Rattle.waiting.proofs.Meant.{room, counted-length, counted-other, put-length, put-other, answers-length, answered-other, lowered-length}
 
 answers-beyond : (L : List ℕ) (i : ℕ) (rs : List Outcome) (q : ℕ) → 3 + 4 * (i + length rs) ≤ q → getD (answeredFrom L i rs) q 0 ≡ getD L q 0
@@ -36,7 +36,7 @@ module _ (L : List ℕ) where
       ∙ simp length-set (put-length L (placesIn L) (lastTicket L + 1) o)
 
   pub take-length : (o : Order) → length (takenList L o) ≡ length L
-  take-length o = either (full L) (λ f. rw f refl) (λ f. rw f (joined-length o))
+  take-length o = by-bool (full L) (λ f. rw f refl) (λ f. rw f (joined-length o))
 
   pub run-length : (rs : List Outcome) → length (settled L rs) ≡ length L
   unfolding settled
@@ -49,7 +49,7 @@ module _ (L : List ℕ) where
       ∙ lowered-length L (3 + 4 * i) (4 * (placesIn L - (i + 1)))
 
   pub fetch-length : (t : ℕ) → length (fetchedList L t) ≡ length L
-  fetch-length t = either (tooShort (length L)) (λ s. rw s refl) (λ s. rw s (go (found L t)))
+  fetch-length t = by-bool (tooShort (length L)) (λ s. rw s refl) (λ s. rw s (go (found L t)))
     where
       go : (k : Found) → length (fetchedBy L k) ≡ length L
       go place.Nowhere = refl
@@ -69,7 +69,7 @@ module _ (L : List ℕ) where
         ∙ put-other L (placesIn L) (lastTicket L + 1) o q (λ e. omega arith) (λ e. omega arith) (λ e. omega arith) (λ e. omega arith)
 
     pub take-beyond : (o : Order) → getD (takenList L o) q 0 ≡ getD L q 0
-    take-beyond o = either (full L) (λ f. rw f refl) (λ f. rw f (joined-beyond o (room L f .0)))
+    take-beyond o = by-bool (full L) (λ f. rw f refl) (λ f. rw f (joined-beyond o (room L f .0)))
 
     pub run-beyond : (rs : List Outcome) → length rs ≡ ordersIn L → getD (settled L rs) q 0 ≡ getD L q 0
     unfolding settled
@@ -86,7 +86,7 @@ module _ (L : List ℕ) where
         ∙ lowered-beyond L (3 + 4 * i) (4 * (placesIn L - (i + 1))) q (omega arith)
 
     pub fetch-beyond : (t : ℕ) → getD (fetchedList L t) q 0 ≡ getD L q 0
-    fetch-beyond t = either (tooShort (length L)) (λ s. rw s refl) (λ s. rw s (go (found L t) refl))
+    fetch-beyond t = by-bool (tooShort (length L)) (λ s. rw s refl) (λ s. rw s (go (found L t) refl))
       where
         go : (k : Found) → found L t ≡ k → getD (fetchedBy L k) q 0 ≡ getD L q 0
         go place.Nowhere e = refl

@@ -2,14 +2,14 @@
 -- waits and what becomes of an order; and what running a list takes, place by place.
 -- Assumes nothing.
 use mathlib.Core.Path.{_≡_, refl, sym, ap, subst, _∙_}
-use mathlib.Core.Bool.{true, false, cond}
+use mathlib.Core.Bool.{false, cond}
 use mathlib.Core.Logic.{_⊎_, inl, inr}
 use mathlib.Core.List.{List, [], _∷_, _++_, map}
-use Prim.Native.Nat.{ℕ, zero, suc, _+_, _%_, _≤_, _<_}
+use Prim.Native.Nat.{ℕ, zero, suc, _+_, _%_, _≤_}
 use native.Mathlib.Omega.{arith}
 use lib.Dec.{eqb}
 use lib.ListN.{length}
-use borrow.Author.Tests.{le-ltb}
+use Rattle.general.proofs.Laws.{by-bool}
 use Rattle.waiting.specs.declared.Order.{Order}
 use Rattle.waiting.specs.declared.Outcome.{Outcome}
 use Rattle.waiting.specs.declared.Taking.{Taking}
@@ -19,10 +19,9 @@ use Rattle.waiting.specs.declared.Fetching.{Fetching}
 use Rattle.waiting.specs.declared.Fetching.the-variants as fetching
 use Rattle.waiting.specs.Layout.{tooShort, lastTicket, answersIn, ordersIn, placesIn, orderAt, outcomeAt, ordersFrom, waiting, full, takenList, settled, found, answerOf, fetched, fetchedList, emptied}
 use Rattle.waiting.specs.Carrying.{carriedAll, outcomes}
-use Rattle.waiting.specs.Meaning.{Under, Meaning, places, meaning, withOrder, withAnswers, keptOrder, Fits, Rising, Orderly, InOrder}
-use Rattle.waiting.specs.Fates.{Fate, Waits, Answered, Gone, fetchedOf, ran, handedOut}
+use Rattle.waiting.specs.Meaning.{Under, Meaning, places, meaning, withAnswers, keptOrder, Fits, Rising, Orderly, InOrder}
+use Rattle.waiting.specs.Fates.{Fate, Waits, Gone, fetchedOf, ran, handedOut}
 use Rattle.waiting.specs.Promises.{Takes, Fetches}
-use Rattle.waiting.proofs.Listing.{either}
 use Rattle.waiting.proofs.Standing as standing
 use Rattle.waiting.proofs.Standing.{StandsIn, map-append, outcomes-length}
 -- ---- the meaning: each call does to it what specs/Meaning says
@@ -48,7 +47,7 @@ fetch-unique L t p q = (p .0 ∙ sym (q .0), p .1 ∙ sym (q .1))
 pub fetch-cases : (L : List ℕ) (t : ℕ)
     → ((r : Outcome) × (fetched L t ≡ answerOf r))
     ⊎ (((fetched L t ≡ fetching.Waits t) ⊎ (fetched L t ≡ fetching.Unknown)) × (fetchedList L t ≡ L))
-fetch-cases L t = either (tooShort (length L))
+fetch-cases L t = by-bool (tooShort (length L))
     (λ s. inr (inr (rw s refl), rw s refl))
     (λ s. go (found L t) s refl)
   where
@@ -122,7 +121,7 @@ last-means L = refl
 
 module _ (L : List ℕ) (long : 259 ≤ length L) where
   pub take-last : (o : Order) → lastTicket (takenList L o) ≡ cond (full L) (lastTicket L) (lastTicket L + 1)
-  take-last o = either (full L)
+  take-last o = by-bool (full L)
       (λ f. rw f refl)
       (λ f.
       sym (last-means (takenList L o))
@@ -161,7 +160,7 @@ module _ (L : List ℕ) (is : InOrder L) where
   pub take-in-order : (o : Order) → InOrder (takenList L o)
   take-in-order o = record {
     long = let e = take-length L o in let l = is .long in omega arith;
-    orderly = either (full L)
+    orderly = by-bool (full L)
         (λ f. rw f (is .orderly))
         (λ f. subst Orderly (sym (take-means L o (is .long) f)) (standing.take-orderly (meaning L) (keptOrder o) (is .orderly)));
   }
@@ -202,7 +201,7 @@ module _ (t : ℕ) (o : Order) (ahead : List Order) (φ : Fate) (L : List ℕ) (
   pub stands-take : (p : Order) → Stands t o ahead φ (takenList L p)
   stands-take p = record {
     in-order = take-in-order L (st .in-order) p;
-    there = either (full L)
+    there = by-bool (full L)
         (λ f. rw f (st .there))
         (λ f. subst (StandsIn t o ahead φ) (sym (take-means L p long f)) (standing.take-stands t o ahead φ (meaning L) (keptOrder p) (st .there)));
   }

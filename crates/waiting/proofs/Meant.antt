@@ -1,24 +1,24 @@
 -- What taking, running, fetching and emptying make of a list is what they make of its meaning.
 -- Assumes nothing.
-use mathlib.Core.Path.{_≡_, refl, sym, ap, ap₂, subst, _∙_}
-use mathlib.Core.Bool.{Bool, true, false, cond, not, _||_}
+use mathlib.Core.Path.{_≡_, refl, sym, ap, subst, _∙_}
+use mathlib.Core.Bool.{false, cond, not}
 use mathlib.Core.List.{List, [], _∷_, _++_}
-use Prim.Native.Nat.{ℕ, zero, suc, _+_, _-_, _*_, _%_, _≤_, _<_}
+use Prim.Native.Nat.{ℕ, zero, suc, _+_, _-_, _*_, _≤_, _<_}
 use native.Mathlib.Omega.{arith}
 use native.Mathlib.Decide.{decLt, ℕ-discrete}
 use lib.Dec.{eqb, ltb}
 use lib.ListN.{length, getD, set, length-set}
 use lib.Seq.{getD-set-same, getD-set-other}
-use borrow.Author.Tests.{lt-ltb, le-ltb, ltb-true, ltb-false, not-false, ne-eqb, eq-eqb}
+use borrow.Author.Tests.{lt-ltb, le-ltb, ltb-true, not-false}
+use Rattle.general.proofs.Laws.{neither, by-bool}
 use Rattle.waiting.specs.declared.Order.{Order}
 use Rattle.waiting.specs.declared.Outcome.{Outcome}
-use Rattle.waiting.specs.declared.Found.{Found}
 use Rattle.waiting.specs.declared.Found.the-variants as place
 use Rattle.waiting.specs.declared.Fetching.{Fetching}
 use Rattle.waiting.specs.declared.Fetching.the-variants as fetching
-use Rattle.waiting.specs.Layout.{least, lastTicket, answersIn, ordersIn, placesIn, ticketAt, orderAt, outcomeAt, ordersFrom, waiting, counted, full, putAt, joined, takenList, answeredAt, answeredFrom, settled, foundFrom, placeOf, found, lowered, without, answerOf, fetchingBy, fetched, fetchedBy, fetchedList, emptied}
-use Rattle.waiting.specs.Meaning.{Under, Meaning, places, meaning, withOrder, each, withAnswers, dropped, withoutAnswer, withNothing, orderUnder, answerUnder, told, keptOrder}
-use Rattle.waiting.proofs.Listing.{either, places-most, found-below}
+use Rattle.waiting.specs.Layout.{least, lastTicket, answersIn, ordersIn, placesIn, ticketAt, orderAt, outcomeAt, counted, full, putAt, joined, takenList, answeredAt, answeredFrom, settled, foundFrom, placeOf, found, lowered, without, answerOf, fetched, fetchedList, emptied}
+use Rattle.waiting.specs.Meaning.{Under, places, meaning, withOrder, each, withAnswers, dropped, withoutAnswer, withNothing, orderUnder, answerUnder, told, keptOrder}
+use Rattle.waiting.proofs.Listing.{places-most}
 
 -- ---- places that are alike
 
@@ -129,14 +129,10 @@ module _ (L : List ℕ) (a w : ℕ) where
 
 -- ---- an order is taken
 
-or-false : (a b : Bool) → (a || b) ≡ false → (a ≡ false) × (b ≡ false)
-or-false true b e = let z : _≡_ {A = ℕ} 0 1 = cc in absurd (omega arith)
-or-false false b e = (refl, e)
-
 pub room : (L : List ℕ) → full L ≡ false → (placesIn L < 64) × (lastTicket L < 18446744073709551615)
 unfolding full
 room L e =
-    let f = or-false (not (ltb (placesIn L) 64)) (not (ltb (lastTicket L) 18446744073709551615)) e in (
+    let f = neither (not (ltb (placesIn L) 64)) (not (ltb (lastTicket L) 18446744073709551615)) e in (
       ltb-true (placesIn L) 64 (not-false (ltb (placesIn L) 64) (f .0)),
       ltb-true (lastTicket L) 18446744073709551615 (not-false (ltb (lastTicket L) 18446744073709551615) (f .1)),
     )
@@ -320,20 +316,20 @@ module _ (L : List ℕ) (t : ℕ) where
   found-from : (i m : ℕ) → i ≤ foundFrom L t i m
   unfolding foundFrom
   found-from i zero = omega arith
-  found-from i (suc m) = let h = found-from (suc i) m in either (eqb (ticketAt L i) t) (λ y. rw y (omega arith)) (λ n. rw n (omega arith))
+  found-from i (suc m) = let h = found-from (suc i) m in by-bool (eqb (ticketAt L i) t) (λ y. rw y (omega arith)) (λ n. rw n (omega arith))
 
   -- the answers without the first of them under the ticket, which stands at place i + k
   dropped-at : (i k m : ℕ) → k < m → foundFrom L t i m ≡ i + k
       → dropped t (places (outcomeAt L) L i m) ≡ places (outcomeAt L) L i k ++ places (outcomeAt L) L (suc (i + k)) (m - suc k)
   unfolding dropped places foundFrom
   dropped-at i k zero h e = absurd (omega arith)
-  dropped-at i zero (suc m) h e = either (eqb (ticketAt L i) t)
+  dropped-at i zero (suc m) h e = by-bool (eqb (ticketAt L i) t)
       (λ y.
       let a : suc m - 1 ≡ m = omega arith in
       let b : i + 0 ≡ i = omega arith in
       rw (y, a, b) refl)
       (λ n. let f = rw n at e in absurd (omega (arith, found-from (suc i) m)))
-  dropped-at i (suc k) (suc m) h e = either (eqb (ticketAt L i) t)
+  dropped-at i (suc k) (suc m) h e = by-bool (eqb (ticketAt L i) t)
       (λ y. let f = rw y at e in absurd (omega arith))
       (λ n.
       let f = rw n at e in
@@ -346,7 +342,7 @@ module _ (L : List ℕ) (t : ℕ) where
   dropped-none : (i m : ℕ) → i + m ≤ foundFrom L t i m → dropped t (places (outcomeAt L) L i m) ≡ places (outcomeAt L) L i m
   unfolding dropped places foundFrom
   dropped-none i zero h = refl
-  dropped-none i (suc m) h = either (eqb (ticketAt L i) t)
+  dropped-none i (suc m) h = by-bool (eqb (ticketAt L i) t)
       (λ y. let f = rw y at h in absurd (omega arith))
       (λ n.
       let f = rw n at h in
@@ -362,7 +358,7 @@ module _ (L : List ℕ) (t : ℕ) where
   found-more i (suc m) n =
       let a : suc m + n ≡ suc (m + n) = omega arith in
       let b : i + suc m ≡ suc i + m = omega arith in
-      either (eqb (ticketAt L i) t)
+      by-bool (eqb (ticketAt L i) t)
       (λ y. rw (a, y, b, lt-ltb i (suc i + m) (omega arith)) refl)
       (λ y. rw (a, y, b) (found-more (suc i) m n))
 
@@ -370,28 +366,28 @@ module _ (L : List ℕ) (t : ℕ) where
       → answerUnder t (places (outcomeAt L) L i m) other ≡ answerOf (outcomeAt L (foundFrom L t i m))
   unfolding answerUnder places foundFrom
   answer-hit i zero other h = absurd (omega arith)
-  answer-hit i (suc m) other h = either (eqb (ticketAt L i) t)
+  answer-hit i (suc m) other h = by-bool (eqb (ticketAt L i) t)
       (λ y. rw y refl)
       (λ n. let f = rw n at h in rw n (answer-hit (suc i) m other (omega arith)))
 
   answer-missed : (i m : ℕ) (other : Fetching) → i + m ≤ foundFrom L t i m → answerUnder t (places (outcomeAt L) L i m) other ≡ other
   unfolding answerUnder places foundFrom
   answer-missed i zero other h = refl
-  answer-missed i (suc m) other h = either (eqb (ticketAt L i) t)
+  answer-missed i (suc m) other h = by-bool (eqb (ticketAt L i) t)
       (λ y. let f = rw y at h in absurd (omega arith))
       (λ n. let f = rw n at h in rw n (answer-missed (suc i) m other (omega arith)))
 
   order-hit : (i m : ℕ) → foundFrom L t i m < i + m → orderUnder t (places (orderAt L) L i m) ≡ fetching.Waits t
   unfolding orderUnder places foundFrom
   order-hit i zero h = absurd (omega arith)
-  order-hit i (suc m) h = either (eqb (ticketAt L i) t)
+  order-hit i (suc m) h = by-bool (eqb (ticketAt L i) t)
       (λ y. rw y refl)
       (λ n. let f = rw n at h in rw n (order-hit (suc i) m (omega arith)))
 
   order-missed : (i m : ℕ) → i + m ≤ foundFrom L t i m → orderUnder t (places (orderAt L) L i m) ≡ fetching.Unknown
   unfolding orderUnder places foundFrom
   order-missed i zero h = refl
-  order-missed i (suc m) h = either (eqb (ticketAt L i) t)
+  order-missed i (suc m) h = by-bool (eqb (ticketAt L i) t)
       (λ y. let f = rw y at h in absurd (omega arith))
       (λ n. let f = rw n at h in rw n (order-missed (suc i) m (omega arith)))
 
@@ -420,7 +416,7 @@ module _ (L : List ℕ) (t : ℕ) where
   unfolding found meaning
   fetch-tells long =
       rw (le-ltb (length L) 259 long)
-      (either (eqb t 0)
+      (by-bool (eqb t 0)
       (λ z. rw z refl)
       (λ z. elim (decLt (placeOf L t) (answersIn L)) [
         | yes l ↦
@@ -488,7 +484,7 @@ module _ (L : List ℕ) (t : ℕ) (long : 259 ≤ length L) where
   unfolding found meaning
   fetch-means =
       rw (le-ltb (length L) 259 long)
-      (either (eqb t 0)
+      (by-bool (eqb t 0)
       (λ z. rw z refl)
       (λ z. elim (decLt (placeOf L t) (answersIn L)) [
         | yes l ↦

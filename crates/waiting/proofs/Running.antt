@@ -1,13 +1,12 @@
 -- Orders carried out place by place, over any state: one place more, and what is left to do from there.
 -- Assumes nothing.
-use mathlib.Core.Path.{_≡_, refl, ap₂, subst, _∙_}
-use mathlib.Core.List.{List, [], _∷_}
+use mathlib.Core.Path.{_≡_, refl, ap₂, subst}
+use mathlib.Core.List.{List, _∷_}
 use Prim.Native.Nat.{ℕ, zero, suc, _+_, _-_, _*_, _≤_, _<_}
 use native.Mathlib.Omega.{arith}
-use lib.ListN.{getD}
 use Rattle.waiting.specs.declared.Order.{Order}
 use Rattle.waiting.specs.declared.Outcome.{Outcome}
-use Rattle.waiting.specs.Layout.{answersIn, ordersIn, placesIn, orderAt, ordersFrom, waiting, counted, answeredAt, answeredFrom, settled}
+use Rattle.waiting.specs.Layout.{answersIn, ordersIn, orderAt, ordersFrom, waiting, counted, answeredAt, answeredFrom, settled}
 use Rattle.waiting.specs.Carrying.{carriedAll, outcomes}
 use Rattle.waiting.proofs.Meant.{answered-other}
 

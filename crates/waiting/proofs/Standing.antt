@@ -1,14 +1,14 @@
 -- Rising tickets: where an order or an answer stands in a list's meaning, and what each step makes of it.
 -- Assumes nothing.
 use mathlib.Core.Path.{_≡_, refl, sym, ap, ap₂, subst, _∙_}
-use mathlib.Core.Bool.{Bool, true, false, cond}
+use mathlib.Core.Bool.{cond}
 use mathlib.Core.List.{List, [], _∷_, _++_, map, append-nil, append-assoc}
-use Prim.Native.Nat.{ℕ, zero, suc, _+_, _≤_, _<_}
+use Prim.Native.Nat.{ℕ, suc, _+_, _≤_, _<_}
 use native.Mathlib.Omega.{arith}
-use native.Mathlib.Decide.{ℕ-discrete}
 use lib.Dec.{eqb}
 use lib.ListN.{length}
 use borrow.Author.Tests.{ne-eqb, eq-eqb, eqb-true, eqb-false}
+use Rattle.general.proofs.Laws.{by-bool}
 use Rattle.waiting.specs.declared.Order.{Order}
 use Rattle.waiting.specs.declared.Outcome.{Outcome}
 use Rattle.waiting.specs.declared.Fetching.{Fetching}
@@ -17,7 +17,6 @@ use Rattle.waiting.specs.Layout.{answerOf}
 use Rattle.waiting.specs.Carrying.{carriedAll, outcomes}
 use Rattle.waiting.specs.Meaning.{Under, Meaning, withOrder, each, withAnswers, dropped, withoutAnswer, withNothing, orderUnder, answerUnder, told, Rising, tickets, Orderly}
 use Rattle.waiting.specs.Fates.{Fate, Waits, Answered, Gone, fetchedOf, ran, handedOut}
-use Rattle.waiting.proofs.Listing.{either}
 
 -- ---- lists
 
@@ -113,12 +112,12 @@ run-orderly M rs e r = subst (λ (ts : List ℕ). Rising 0 ts (M .last)) (sym (r
 rising-dropped : (t n : ℕ) (rs : List (Under Outcome)) (ts : List ℕ) (z : ℕ) → Rising n (tickets rs ++ ts) z → Rising n (tickets (dropped t rs) ++ ts) z
 unfolding dropped Rising
 rising-dropped t n [] ts z h = h
-rising-dropped t n (r ∷ rs) ts z h = either (eqb (r .ticket) t)
+rising-dropped t n (r ∷ rs) ts z h = by-bool (eqb (r .ticket) t)
     (λ y. rw y (let l = h .0 in rising-lower n (r .ticket) (tickets rs ++ ts) z (omega arith) (h .1)))
     (λ y. rw y (h .0, rising-dropped t (r .ticket) rs ts z (h .1)))
 
 pub fetch-orderly : (M : Meaning) (t : ℕ) → Orderly M → Orderly (withoutAnswer M t)
-fetch-orderly M t r = either (eqb t 0)
+fetch-orderly M t r = by-bool (eqb t 0)
     (λ y. rw y r)
     (λ y. rw y (rising-dropped t 0 (M .answers) (tickets (M .orders)) (M .last) r))
 
@@ -183,7 +182,7 @@ order-absent t (o ∷ os) a = rw (ne-eqb (o .ticket) t (a .0)) (order-absent t o
 order-there : (t : ℕ) (o : Order) (xs ys : List (Under Order)) → orderUnder t (xs ++ (record { ticket = t; item = o } ∷ ys)) ≡ fetching.Waits t
 unfolding orderUnder
 order-there t o [] ys = rw (eq-eqb t t refl) refl
-order-there t o (x ∷ xs) ys = either (eqb (x .ticket) t) (λ y. rw y refl) (λ y. rw y (order-there t o xs ys))
+order-there t o (x ∷ xs) ys = by-bool (eqb (x .ticket) t) (λ y. rw y refl) (λ y. rw y (order-there t o xs ys))
 
 answer-there : (t : ℕ) (r : Outcome) (xs ys : List (Under Outcome)) (other : Fetching) → Absent t (tickets xs)
     → answerUnder t (xs ++ (record { ticket = t; item = r } ∷ ys)) other ≡ answerOf r
@@ -203,7 +202,7 @@ told-stands t o ahead (Answered r) M orderly w =
     rw (ne-eqb t 0 (λ e. omega arith), w .split) (answer-there t r (w .before) (w .behind) (orderUnder t (M .orders)) (a .before))
 told-stands t o ahead Gone M orderly g =
     let b = absent-both t (tickets (M .answers)) (tickets (M .orders)) (g .absent) in
-    either (eqb t 0)
+    by-bool (eqb t 0)
     (λ z. rw z refl)
     (λ z. rw (z, answer-absent t (M .answers) (orderUnder t (M .orders)) (b .0), order-absent t (M .orders) (b .1)) refl)
 
@@ -304,7 +303,7 @@ dropped-other : (u t : ℕ) (r : Outcome) (xs ys : List (Under Outcome)) → (u 
     → (vs : List (Under Outcome)) × (ws : List (Under Outcome)) × (dropped u (xs ++ (record { ticket = t; item = r } ∷ ys)) ≡ vs ++ (record { ticket = t; item = r } ∷ ws))
 unfolding dropped
 dropped-other u t r [] ys n = ([], dropped u ys, rw (ne-eqb t u (λ e. n (sym e))) refl)
-dropped-other u t r (x ∷ xs) ys n = either (eqb (x .ticket) u)
+dropped-other u t r (x ∷ xs) ys n = by-bool (eqb (x .ticket) u)
     (λ y. (xs, ys, rw y refl))
     (λ y.
     let d = dropped-other u t r xs ys n in
@@ -318,17 +317,17 @@ dropped-own t r (x ∷ xs) ys a = rw (ne-eqb (x .ticket) t (a .0)) (ap (λ (us :
 absent-dropped : (u t : ℕ) (rs : List (Under Outcome)) → Absent t (tickets rs) → Absent t (tickets (dropped u rs))
 unfolding dropped Absent
 absent-dropped u t [] a = a
-absent-dropped u t (r ∷ rs) a = either (eqb (r .ticket) u) (λ y. rw y (a .1)) (λ y. rw y (a .0, absent-dropped u t rs (a .1)))
+absent-dropped u t (r ∷ rs) a = by-bool (eqb (r .ticket) u) (λ y. rw y (a .1)) (λ y. rw y (a .0, absent-dropped u t rs (a .1)))
 
 pub fetch-stands : (t : ℕ) (o : Order) (ahead : List Order) (φ : Fate) (M : Meaning) → Orderly M → (u : ℕ) → StandsIn t o ahead φ M
     → StandsIn t o ahead (cond (eqb u t) (handedOut φ) φ) (withoutAnswer M u)
-fetch-stands t o ahead Waits M orderly u w = either (eqb u t)
+fetch-stands t o ahead Waits M orderly u w = by-bool (eqb u t)
     (λ y. rw y (record { before = w .before; behind = w .behind; split = w .split; order = w .order }))
     (λ y. rw y (record { before = w .before; behind = w .behind; split = w .split; order = w .order }))
 fetch-stands t o ahead (Answered r) M orderly u w =
     let a = answered-among t o ahead M orderly r w in
     let l = a .above in
-    either (eqb u t)
+    by-bool (eqb u t)
     (λ y.
     let e = eqb-true u t y in
     let d : dropped t (M .answers) ≡ w .before ++ w .behind = rw (w .split) (dropped-own t r (w .before) (w .behind) (a .before)) in
@@ -338,17 +337,17 @@ fetch-stands t o ahead (Answered r) M orderly u w =
       absent = both-absent t (tickets (dropped t (M .answers))) (tickets (M .orders))
           (rw (d, tickets-append (w .before) (w .behind)) (both-absent t (tickets (w .before)) (tickets (w .behind)) (a .before) (b .0))) (b .1);
     }))
-    (λ y. rw y (either (eqb u 0)
+    (λ y. rw y (by-bool (eqb u 0)
     (λ z. rw z (record { before = w .before; behind = w .behind; split = w .split }))
     (λ z.
     let d = dropped-other u t r (w .before) (w .behind) (eqb-false u t y) in
     rw z (record { before = d .0; behind = d .1; split = ap (dropped u) (w .split) ∙ d .2 }))))
 fetch-stands t o ahead Gone M orderly u g =
     let b = absent-both t (tickets (M .answers)) (tickets (M .orders)) (g .absent) in
-    let kept : GoneIn t (withoutAnswer M u) = either (eqb u 0)
+    let kept : GoneIn t (withoutAnswer M u) = by-bool (eqb u 0)
     (λ z. rw z (record { past = g .past; absent = g .absent }))
     (λ z. rw z (record { past = g .past; absent = both-absent t (tickets (dropped u (M .answers))) (tickets (M .orders)) (absent-dropped u t (M .answers) (b .0)) (b .1) })) in
-    either (eqb u t) (λ y. rw y kept) (λ y. rw y kept)
+    by-bool (eqb u t) (λ y. rw y kept) (λ y. rw y kept)
 
 -- the list is emptied
 

@@ -1,7 +1,6 @@
 -- What a list means: the last ticket given, the answers that are to be fetched and the orders that wait, each under its ticket, in the order of arrival; and
 -- what taking, running, fetching and emptying make of it. proofs/Laws shows that they do just this to the numbers of a list.
 -- Assumes nothing.
-use mathlib.Core.Path.{_≡_}
 use mathlib.Core.Bool.{cond}
 use mathlib.Core.List.{List, [], _∷_, _++_, map}
 use Prim.Native.Nat.{ℕ, zero, suc, _+_, _%_, _≤_, _<_}

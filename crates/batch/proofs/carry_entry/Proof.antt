@@ -5,18 +5,6 @@ use borrow.Author.Needs.{needs}
 use Rattle.batch.proofs.carry_entry.Statement.{statement}
 use Rattle.batch.proofs.carry_entry.Tie as tie
 
-order-requires : tie.Need-order-requires
-order-requires c κs = search needs
-
-note-requires : tie.Need-note-requires
-note-requires c κs = search needs
-
-same-length : tie.Need-same-length
-same-length c = search needs
-
-same-length-2 : tie.Need-same-length-2
-same-length-2 c = search needs
-
 returns : tie.Need-returns
 unfolding carried
 returns c =
@@ -25,4 +13,4 @@ returns c =
 
 pub carry-entry-spec : {M : Type 1} → statement M
 carry-entry-spec =
-    tie.close (tie.spec order-requires note-requires same-length same-length-2 returns)
+    tie.close (tie.spec (λ c κs. search needs) (λ c κs. search needs) (λ c. search needs) (λ c. search needs) returns)

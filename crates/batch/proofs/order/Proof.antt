@@ -6,30 +6,12 @@ use borrow.Author.Needs.{needs}
 use Rattle.batch.proofs.order.Statement.{statement}
 use Rattle.batch.proofs.order.Tie as tie
 
-add-requires : tie.Need-add-requires
-add-requires c κs = search needs
-
-same-length : tie.Need-same-length
-same-length c = search needs
-
-same-length-2 : tie.Need-same-length-2
-same-length-2 c = search needs
-
 returns : tie.Need-returns
 unfolding ordered orderedBoard orderedList
 returns c =
     let k = eq-eqb _ _ (c .before .before .before .before .before .before .before .if1 .taken) in
     let p = c .before .before .before .before .add .ensures in
     (simp (k, p .0), simp (k, p .2), simp (k, p .3))
-
-remove-requires : tie.Need-remove-requires
-remove-requires c κs = search needs
-
-same-length-3 : tie.Need-same-length-3
-same-length-3 c = search needs
-
-same-length-4 : tie.Need-same-length-4
-same-length-4 c = search needs
 
 returns-2 : tie.Need-returns-2
 unfolding ordered orderedBoard orderedList
@@ -50,12 +32,5 @@ pub order-spec : {M : Type 1} → statement M
 order-spec =
     tie.close
     (tie.spec
-    add-requires
-    same-length
-    same-length-2
-    returns
-    remove-requires
-    same-length-3
-    same-length-4
-    returns-2
-    returns-3)
+    (λ c κs. search needs) (λ c. search needs) (λ c. search needs) returns (λ c κs. search needs) (λ c. search needs) (λ c. search needs)
+    returns-2 returns-3)

@@ -21,27 +21,12 @@ abbrev μ-loop : tie.MeasureT-loop
 loop-holds : tie.Need-loop-holds Inv-loop μ-loop
 loop-holds c = (search needs, search needs, idle-none _)
 
-mul-board : tie.Need-mul-board Inv-loop μ-loop
-mul-board c = search needs
-
-slice-write-board : tie.Need-slice-write-board Inv-loop μ-loop
-slice-write-board c = search needs
-
-add-i : tie.Need-add-i Inv-loop μ-loop
-add-i c = search needs
-
-loop-less : tie.Need-loop-less Inv-loop μ-loop
-loop-less c = search needs
-
 loop-again : tie.Need-loop-again Inv-loop μ-loop
 loop-again c =
     let L = c .before .loop in
     let a = c .before .before .args in
     let room : L .i < length (a .board .now) = omega arith in
     (search needs, search needs, rw (add-one (L .i), ← idle-next (a .board .now) (L .i) room) (ap (λ (l : List ℕ). set l (L .i) 0) (L .inv .2)))
-
-same-length : tie.Need-same-length Inv-loop μ-loop
-same-length c = search needs
 
 returns : tie.Need-returns Inv-loop μ-loop
 returns c =
@@ -52,13 +37,5 @@ pub make-idle-spec : {M : Type 1} → statement M
 make-idle-spec =
     tie.close
     (tie.spec
-    Inv-loop
-    μ-loop
-    loop-holds
-    mul-board
-    slice-write-board
-    add-i
-    loop-less
-    loop-again
-    same-length
-    returns)
+    Inv-loop μ-loop loop-holds (λ c. search needs) (λ c. search needs) (λ c. search needs) (λ c. search needs) loop-again
+    (λ c. search needs) returns)

@@ -7,20 +7,8 @@ use Rattle.drives.proofs.Pairs.{pair-vouch}
 use Rattle.drives.proofs.change.Statement.{statement}
 use Rattle.drives.proofs.change.Tie as tie
 
-check-pair-requires : tie.Need-check-pair-requires
-check-pair-requires c κs = search needs
-
-both-start-requires : tie.Need-both-start-requires
-both-start-requires c κs = search needs
-
 take-requires : tie.Need-take-requires
 take-requires c κs = λ e. pair-vouch _ _ _ _ (sym (c .before .before .before .check-pair .ensures) ∙ e)
-
-same-length : tie.Need-same-length
-same-length c = search needs
-
-same-length-2 : tie.Need-same-length-2
-same-length-2 c = search needs
 
 returns : tie.Need-returns
 unfolding wayOf
@@ -34,9 +22,4 @@ pub change-spec : {M : Type 1} → statement M
 change-spec =
     tie.close
     (tie.spec
-    check-pair-requires
-    both-start-requires
-    take-requires
-    same-length
-    same-length-2
-    returns)
+    (λ c κs. search needs) (λ c κs. search needs) take-requires (λ c. search needs) (λ c. search needs) returns)

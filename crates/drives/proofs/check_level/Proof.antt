@@ -7,15 +7,6 @@ use Rattle.drives.specs.Checks.{levelCheck}
 use Rattle.drives.proofs.check_level.Statement.{statement}
 use Rattle.drives.proofs.check_level.Tie as tie
 
-check-pair-requires : tie.Need-check-pair-requires
-check-pair-requires c κs = search needs
-
-enum-known-r : tie.Need-enum-known-r
-enum-known-r c = search needs
-
-enum-told : tie.Need-enum-told
-enum-told c = search needs
-
 returns : tie.Need-returns
 unfolding levelCheck
 returns c = simp (sym (c .before .before .before .check-pair .ensures) ∙ c .before .r .given .1)
@@ -36,9 +27,4 @@ pub check-level-spec : {M : Type 1} → statement M
 check-level-spec =
     tie.close
     (tie.spec
-    check-pair-requires
-    enum-known-r
-    enum-told
-    returns
-    returns-2
-    returns-3)
+    (λ c κs. search needs) (λ c. search needs) (λ c. search needs) returns returns-2 returns-3)

@@ -7,15 +7,6 @@ use Rattle.drives.proofs.Pairs.{sizes-fit}
 use Rattle.drives.proofs.check_pair.Statement.{statement}
 use Rattle.drives.proofs.check_pair.Tie as tie
 
-check-sizes-requires : tie.Need-check-sizes-requires
-check-sizes-requires c κs = search needs
-
-enum-known-r : tie.Need-enum-known-r
-enum-known-r c = search needs
-
-enum-told : tie.Need-enum-told
-enum-told c = search needs
-
 check-places-requires : tie.Need-check-places-requires
 check-places-requires c κs =
     let s = sizes-fit _ _ _ _ (sym (c .before .before .check-sizes .ensures) ∙ c .enum-told .given .1) .own in
@@ -33,9 +24,4 @@ pub check-pair-spec : {M : Type 1} → statement M
 check-pair-spec =
     tie.close
     (tie.spec
-    check-sizes-requires
-    enum-known-r
-    enum-told
-    check-places-requires
-    returns
-    returns-2)
+    (λ c κs. search needs) (λ c. search needs) (λ c. search needs) check-places-requires returns returns-2)

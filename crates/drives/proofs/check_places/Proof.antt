@@ -5,27 +5,6 @@ use Rattle.drives.proofs.Pairs.{places-own, places-other, places-unequa
 use Rattle.drives.proofs.check_places.Statement.{statement}
 use Rattle.drives.proofs.check_places.Tie as tie
 
-cast-c : tie.Need-cast-c
-cast-c c = search needs
-
-cast-check-position : tie.Need-cast-check-position
-cast-check-position c = search needs
-
-check-position-requires : tie.Need-check-position-requires
-check-position-requires c κs = search needs
-
-enum-known-r : tie.Need-enum-known-r
-enum-known-r c = search needs
-
-enum-told : tie.Need-enum-told
-enum-told c = search needs
-
-cast-check-position-2 : tie.Need-cast-check-position-2
-cast-check-position-2 c = search needs
-
-check-position-requires-2 : tie.Need-check-position-requires-2
-check-position-requires-2 c κs = search needs
-
 returns : tie.Need-returns
 returns c =
     let a = c .before .before .before .before .before .before .before .before .before .args in
@@ -45,13 +24,5 @@ pub check-places-spec : {M : Type 1} → statement M
 check-places-spec =
     tie.close
     (tie.spec
-    cast-c
-    cast-check-position
-    check-position-requires
-    enum-known-r
-    enum-told
-    cast-check-position-2
-    check-position-requires-2
-    returns
-    returns-2
-    returns-3)
+    (λ c. search needs) (λ c. search needs) (λ c κs. search needs) (λ c. search needs) (λ c. search needs) (λ c. search needs)
+    (λ c κs. search needs) returns returns-2 returns-3)

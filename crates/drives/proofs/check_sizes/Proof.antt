@@ -17,24 +17,6 @@ returns c = sizes-own _ _ _ _ (c .if1 .taken)
 returns-2 : tie.Need-returns-2
 returns-2 c = sizes-other _ _ _ _ (c .if2 .taken)
 
-cast-larger : tie.Need-cast-larger
-cast-larger c = search needs
-
-cast-larger-2 : tie.Need-cast-larger-2
-cast-larger-2 c = search needs
-
-larger-requires : tie.Need-larger-requires
-larger-requires c κs = search needs
-
-check-open-requires : tie.Need-check-open-requires
-check-open-requires c κs = search needs
-
-enum-known-r : tie.Need-enum-known-r
-enum-known-r c = search needs
-
-enum-told : tie.Need-enum-told
-enum-told c = search needs
-
 -- what is found, by what open's checks find of the larger capacity
 found : (c : tie.After-check-open) (k : Check)
     → andThen (c .check-open .result) (refuseIf (c .before .before .before .before .before .before .before .before .before .args .short) Short Clear) ≡ k
@@ -56,14 +38,6 @@ pub check-sizes-spec : {M : Type 1} → statement M
 check-sizes-spec =
     tie.close
     (tie.spec
-    returns
-    returns-2
-    cast-larger
-    cast-larger-2
-    larger-requires
-    check-open-requires
-    enum-known-r
-    enum-told
-    returns-3
-    returns-4
-    returns-5)
+    returns returns-2
+    (λ c. search needs) (λ c. search needs) (λ c κs. search needs) (λ c κs. search needs) (λ c. search needs) (λ c. search needs) returns-3
+    returns-4 returns-5)

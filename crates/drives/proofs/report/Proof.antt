@@ -6,18 +6,6 @@ use Rattle.drives.specs.Checks.{pairReportCheck}
 use Rattle.drives.proofs.report.Statement.{statement}
 use Rattle.drives.proofs.report.Tie as tie
 
-check-pair-requires : tie.Need-check-pair-requires
-check-pair-requires c κs = search needs
-
-enum-known-r : tie.Need-enum-known-r
-enum-known-r c = search needs
-
-enum-told : tie.Need-enum-told
-enum-told c = search needs
-
-report-requires : tie.Need-report-requires
-report-requires c κs = search needs
-
 returns : tie.Need-returns
 unfolding pairReportCheck
 returns c =
@@ -34,4 +22,4 @@ returns-2 c =
 pub report-spec : {M : Type 1} → statement M
 report-spec =
     tie.close
-    (tie.spec check-pair-requires enum-known-r enum-told report-requires returns returns-2)
+    (tie.spec (λ c κs. search needs) (λ c. search needs) (λ c. search needs) (λ c κs. search needs) returns returns-2)

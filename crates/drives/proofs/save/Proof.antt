@@ -6,26 +6,11 @@ use Rattle.drives.specs.Checks.{pairSaveCheck}
 use Rattle.drives.proofs.save.Statement.{statement}
 use Rattle.drives.proofs.save.Tie as tie
 
-check-start-requires : tie.Need-check-start-requires
-check-start-requires c κs = search needs
-
-enum-known-r : tie.Need-enum-known-r
-enum-known-r c = search needs
-
-enum-told : tie.Need-enum-told
-enum-told c = search needs
-
-save-requires : tie.Need-save-requires
-save-requires c κs = search needs
-
 returns : tie.Need-returns
 unfolding pairSaveCheck
 returns c =
     let e = sym (c .before .before .before .check-start .ensures) ∙ c .before .r .given .1 in
     (simp e, simp e, simp e)
-
-same-length : tie.Need-same-length
-same-length c = search needs
 
 returns-2 : tie.Need-returns-2
 unfolding pairSaveCheck
@@ -38,10 +23,4 @@ pub save-spec : {M : Type 1} → statement M
 save-spec =
     tie.close
     (tie.spec
-    check-start-requires
-    enum-known-r
-    enum-told
-    save-requires
-    returns
-    same-length
-    returns-2)
+    (λ c κs. search needs) (λ c. search needs) (λ c. search needs) (λ c κs. search needs) returns (λ c. search needs) returns-2)

@@ -6,26 +6,11 @@ use Rattle.drives.specs.Checks.{pairPiecesCheck}
 use Rattle.drives.proofs.save_pieces.Statement.{statement}
 use Rattle.drives.proofs.save_pieces.Tie as tie
 
-check-level-requires : tie.Need-check-level-requires
-check-level-requires c κs = search needs
-
-enum-known-r : tie.Need-enum-known-r
-enum-known-r c = search needs
-
-enum-told : tie.Need-enum-told
-enum-told c = search needs
-
-save-pieces-requires : tie.Need-save-pieces-requires
-save-pieces-requires c κs = search needs
-
 returns : tie.Need-returns
 unfolding pairPiecesCheck
 returns c =
     let e = sym (c .before .before .before .check-level .ensures) ∙ c .before .r .given .1 in
     (simp e, simp e, simp e)
-
-same-length : tie.Need-same-length
-same-length c = search needs
 
 returns-2 : tie.Need-returns-2
 unfolding pairPiecesCheck
@@ -38,10 +23,4 @@ pub save-pieces-spec : {M : Type 1} → statement M
 save-pieces-spec =
     tie.close
     (tie.spec
-    check-level-requires
-    enum-known-r
-    enum-told
-    save-pieces-requires
-    returns
-    same-length
-    returns-2)
+    (λ c κs. search needs) (λ c. search needs) (λ c. search needs) (λ c κs. search needs) returns (λ c. search needs) returns-2)

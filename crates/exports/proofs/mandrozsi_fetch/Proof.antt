@@ -2,19 +2,10 @@
 use mathlib.Core.Path.{ap, _∙_}
 use Rattle.waiting.specs.declared.Fetching.{Fetching}
 use Rattle.orders.specs.Answers.{fetchingAnswer}
-use Rattle.exports.specs.Replies.{saidOf}
+use Rattle.replies.specs.Replies.{saidOf}
 use borrow.Author.Needs.{needs}
 use Rattle.exports.proofs.mandrozsi_fetch.Statement.{statement}
 use Rattle.exports.proofs.mandrozsi_fetch.Tie as tie
-
-fetch-requires : tie.Need-fetch-requires
-fetch-requires c κs = search needs
-
-said-fetching-requires : tie.Need-said-fetching-requires
-said-fetching-requires c κs = search needs
-
-same-length : tie.Need-same-length
-same-length c = search needs
 
 returns : tie.Need-returns
 returns c =
@@ -22,5 +13,4 @@ returns c =
     (c .said-fetching .ensures ∙ ap (λ (a : Fetching). saidOf (fetchingAnswer a)) (p .0), p .1)
 
 pub mandrozsi-fetch-spec : {M : Type 1} → statement M
-mandrozsi-fetch-spec =
-    tie.close (tie.spec fetch-requires said-fetching-requires same-length returns)
+mandrozsi-fetch-spec = tie.close (tie.spec (λ c κs. search needs) (λ c κs. search needs) (λ c. search needs) returns)

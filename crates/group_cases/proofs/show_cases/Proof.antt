@@ -14,9 +14,6 @@ Inv-loop cases board₀ list₀ output₀ at₀ board list output at = (length b
 abbrev μ-loop : tie.MeasureT-loop
 μ-loop cases board₀ list₀ output₀ at₀ board list output at = 310 - at
 
-loop-holds : tie.Need-loop-holds Inv-loop μ-loop
-loop-holds c = search needs
-
 show-case-requires : tie.Need-show-case-requires Inv-loop μ-loop
 show-case-requires c κs = omega (arith, c .before .before .before .before .loop-test .taken)
 
@@ -38,8 +35,5 @@ same-length-2 c = c .before .loop .inv .1
 same-length-3 : tie.Need-same-length-3 Inv-loop μ-loop
 same-length-3 c = c .before .loop .inv .2
 
-returns : tie.Need-returns Inv-loop μ-loop
-returns c = search needs
-
 pub show-cases-spec : {M : Type 1} → statement M
-show-cases-spec = tie.close (tie.spec Inv-loop μ-loop loop-holds show-case-requires loop-less loop-again same-length same-length-2 same-length-3 returns)
+show-cases-spec = tie.close (tie.spec Inv-loop μ-loop (λ c. search needs) show-case-requires loop-less loop-again same-length same-length-2 same-length-3 (λ c. search needs))

@@ -1,6 +1,6 @@
 -- `groups::admit_all` meets its contract. Assumes nothing.
 use mathlib.Core.Path.{_≡_, refl, _∙_}
-use Prim.Native.Nat.{_+_, _-_, _≤_}
+use Prim.Native.Nat.{_-_, _≤_}
 use native.Mathlib.Omega.{arith}
 use lib.ListN.{length}
 use Rattle.pieces.specs.Fresh.{laid, Placeables}
@@ -78,15 +78,5 @@ pub admit-all-spec : {M : Type 1} → statement M
 admit-all-spec =
     tie.close
     (tie.spec
-    Inv-loop
-    μ-loop
-    loop-holds
-    streams-of-requires
-    rate-of-requires
-    admit-list-requires
-    add-from
-    add-i
-    loop-less
-    loop-again
-    same-length
+    Inv-loop μ-loop loop-holds streams-of-requires rate-of-requires admit-list-requires add-from add-i loop-less loop-again same-length
     returns)

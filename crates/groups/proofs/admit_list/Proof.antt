@@ -59,15 +59,4 @@ pub admit-list-spec : {M : Type 1} → statement M
 admit-list-spec =
     tie.close
     (tie.spec
-    Inv-loop
-    μ-loop
-    loop-holds
-    add-admit
-    mul-admit
-    shared-slice-read-admit
-    admit-requires
-    add-j
-    loop-less
-    loop-again
-    same-length
-    returns)
+    Inv-loop μ-loop loop-holds add-admit mul-admit shared-slice-read-admit admit-requires add-j loop-less loop-again same-length returns)

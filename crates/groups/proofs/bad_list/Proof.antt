@@ -7,32 +7,14 @@ use borrow.Author.Needs.{needs}
 use Rattle.groups.proofs.bad_list.Statement.{statement}
 use Rattle.groups.proofs.bad_list.Tie as tie
 
-mul-from : tie.Need-mul-from
-mul-from c = search needs
-
-shared-slice-read-from : tie.Need-shared-slice-read-from
-shared-slice-read-from c = search needs
-
 cast-from : tie.Need-cast-from
 cast-from c = omega (arith, c .shared-slice-known2 .given (c .before .before .args .i))
-
-add-to : tie.Need-add-to
-add-to c = search needs
-
-mul-to : tie.Need-mul-to
-mul-to c = search needs
-
-shared-slice-read-to : tie.Need-shared-slice-read-to
-shared-slice-read-to c = search needs
 
 cast-to : tie.Need-cast-to
 cast-to c = omega (arith, c .shared-slice-known3 .given (c .before .before .before .args .i + 1))
 
 returns : tie.Need-returns
 returns c = let a = c .before .before .before .before .args in bad-falls (a .k) (a .starts .now) (a .i) (c .if1 .taken)
-
-rate-of-requires : tie.Need-rate-of-requires
-rate-of-requires c κs = search needs
 
 rem-if2 : tie.Need-rem-if2
 rem-if2 c = rw (c .rate-of .ensures) (pow-pos _)
@@ -49,15 +31,5 @@ pub bad-list-spec : {M : Type 1} → statement M
 bad-list-spec =
     tie.close
     (tie.spec
-    mul-from
-    shared-slice-read-from
-    cast-from
-    add-to
-    mul-to
-    shared-slice-read-to
-    cast-to
-    returns
-    rate-of-requires
-    rem-if2
-    returns-2
-    returns-3)
+    (λ c. search needs) (λ c. search needs) cast-from (λ c. search needs) (λ c. search needs) (λ c. search needs) cast-to returns
+    (λ c κs. search needs) rem-if2 returns-2 returns-3)

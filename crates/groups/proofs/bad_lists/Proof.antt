@@ -38,12 +38,4 @@ pub bad-lists-spec : {M : Type 1} → statement M
 bad-lists-spec =
     tie.close
     (tie.spec
-    Inv-loop
-    μ-loop
-    loop-holds
-    bad-list-requires
-    returns
-    add-i
-    loop-less
-    loop-again
-    returns-2)
+    Inv-loop μ-loop loop-holds bad-list-requires returns add-i loop-less loop-again returns-2)

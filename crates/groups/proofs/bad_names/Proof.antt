@@ -39,12 +39,4 @@ pub bad-names-spec : {M : Type 1} → statement M
 bad-names-spec =
     tie.close
     (tie.spec
-    Inv-loop
-    μ-loop
-    loop-holds
-    bad-name-requires
-    returns
-    add-i
-    loop-less
-    loop-again
-    returns-2)
+    Inv-loop μ-loop loop-holds bad-name-requires returns add-i loop-less loop-again returns-2)

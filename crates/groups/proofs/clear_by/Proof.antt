@@ -4,18 +4,6 @@ use borrow.Author.Needs.{needs}
 use Rattle.groups.proofs.clear_by.Statement.{statement}
 use Rattle.groups.proofs.clear_by.Tie as tie
 
-enum-known-found : tie.Need-enum-known-found
-enum-known-found c = search needs
-
-enum-told : tie.Need-enum-told
-enum-told c = search needs
-
-enum-told-2 : tie.Need-enum-told-2
-enum-told-2 c = search needs
-
-enum-told-3 : tie.Need-enum-told-3
-enum-told-3 c = search needs
-
 clear-table-requires : tie.Need-clear-table-requires
 clear-table-requires c κs = c .before .before .before .before .pre (c .before .enum-told3 .given .1)
 
@@ -28,11 +16,8 @@ returns-2 c = simp (c .enum-told .given .1)
 returns-3 : tie.Need-returns-3
 returns-3 c = simp (c .enum-told2 .given .1)
 
-same-length : tie.Need-same-length
-same-length c = search needs
-
 returns-4 : tie.Need-returns-4
 returns-4 c = simp (c .before .before .before .before .enum-told3 .given .1, c .before .before .clear-table .ensures)
 
 pub clear-by-spec : {M : Type 1} → statement M
-clear-by-spec = tie.close (tie.spec enum-known-found enum-told enum-told-2 enum-told-3 clear-table-requires returns returns-2 returns-3 same-length returns-4)
+clear-by-spec = tie.close (tie.spec (λ c. search needs) (λ c. search needs) (λ c. search needs) (λ c. search needs) clear-table-requires returns returns-2 returns-3 (λ c. search needs) returns-4)

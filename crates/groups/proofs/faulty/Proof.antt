@@ -8,32 +8,14 @@ use borrow.Author.Needs.{needs}
 use Rattle.groups.proofs.faulty.Statement.{statement}
 use Rattle.groups.proofs.faulty.Tie as tie
 
-add-if1 : tie.Need-add-if1
-add-if1 c = search needs
-
 returns : tie.Need-returns
 returns c = not-size _ _ _ (c .if1 .taken)
-
-shared-slice-read-if2 : tie.Need-shared-slice-read-if2
-shared-slice-read-if2 c = search needs
 
 returns-2 : tie.Need-returns-2
 returns-2 c = not-first _ _ _ (c .before .before .if1 .left) (c .if2 .taken)
 
-bad-lists-requires : tie.Need-bad-lists-requires
-bad-lists-requires c κs = search needs
-
 returns-3 : tie.Need-returns-3
 returns-3 c = not-lists _ _ _ (c .before .before .before .before .if1 .left) (c .before .before .if2 .left) (sym (c .before .bad-lists .ensures) ∙ c .if3 .taken)
-
-shl-if4 : tie.Need-shl-if4
-shl-if4 c = search needs
-
-mul-if4 : tie.Need-mul-if4
-mul-if4 c = search needs
-
-shared-slice-read-if4 : tie.Need-shared-slice-read-if4
-shared-slice-read-if4 c = search needs
 
 cast-if4 : tie.Need-cast-if4
 cast-if4 c = omega (arith, c .shared-slice-known4 .given (c .before .before .before .before .before .before .before .before .args .k))
@@ -53,9 +35,6 @@ returns-5 c = let a = c .before .before .before .before .before .before .before 
     not-held _ _ _ (c .before .before .before .before .before .before .before .before .if1 .left) (c .before .before .before .before .before .before .if2 .left) (sym (c .before .before .before .before .before .bad-lists .ensures) ∙ c .before .before .before .before .if3 .left) l
     (λ e. c .if5 .taken (e ∙ sym (c .before .offset-of .ensures .0)))
 
-bad-names-requires : tie.Need-bad-names-requires
-bad-names-requires c κs = search needs
-
 returns-6 : tie.Need-returns-6
 returns-6 c = let a = c .before .before .before .before .before .before .before .before .before .before .before .before in
     let l = rw (shift-exact (a .args .k) (omega (arith, a .pre))) at (c .before .before .before .if4 .left) in
@@ -66,18 +45,6 @@ pub faulty-spec : {M : Type 1} → statement M
 faulty-spec =
     tie.close
     (tie.spec
-    add-if1
-    returns
-    shared-slice-read-if2
-    returns-2
-    bad-lists-requires
-    returns-3
-    shl-if4
-    mul-if4
-    shared-slice-read-if4
-    cast-if4
-    returns-4
-    offset-of-requires
-    returns-5
-    bad-names-requires
+    (λ c. search needs) returns (λ c. search needs) returns-2 (λ c κs. search needs) returns-3
+    (λ c. search needs) (λ c. search needs) (λ c. search needs) cast-if4 returns-4 offset-of-requires returns-5 (λ c κs. search needs)
     returns-6)

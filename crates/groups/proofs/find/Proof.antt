@@ -47,15 +47,4 @@ pub find-spec : {M : Type 1} → statement M
 find-spec =
     tie.close
     (tie.spec
-    Inv-loop
-    μ-loop
-    loop-holds
-    add-if1
-    mul-if1
-    shared-slice-read-if1
-    cast-if1
-    returns
-    add-i
-    loop-less
-    loop-again
-    returns-2)
+    Inv-loop μ-loop loop-holds add-if1 mul-if1 shared-slice-read-if1 cast-if1 returns add-i loop-less loop-again returns-2)

@@ -10,26 +10,11 @@ use Rattle.groups.proofs.import.Tie as tie
 found : (c : tie.After-check) → c .check .result ≡ finds (c .before .before .before .before .before .before .before .before .args .capacity) (c .before .before .before .before .before .before .before .before .args .starts .now) (c .before .before .before .before .before .before .before .before .args .names .now) (c .before .before .before .before .before .before .before .before .args .board .now) (c .before .before .before .before .before .before .before .before .args .list .now) (c .before .before .before .before .before .before .before .before .args .output .now)
 found c = found-is _ _ _ _ _ _ _ (c .check .ensures) (c .before .short-lent .ensures)
 
-short-lent-requires : tie.Need-short-lent-requires
-short-lent-requires c κs = search needs
-
-check-requires : tie.Need-check-requires
-check-requires c κs = search needs
-
 import-by-requires : tie.Need-import-by-requires
 import-by-requires c κs = λ e. sym (found (c .before .before .before)) ∙ e
-
-same-length : tie.Need-same-length
-same-length c = search needs
-
-same-length-2 : tie.Need-same-length-2
-same-length-2 c = search needs
-
-same-length-3 : tie.Need-same-length-3
-same-length-3 c = search needs
 
 returns : tie.Need-returns
 returns c = rw (← found (c .before .before .before .before .before .before .before .before .before .before)) (c .before .before .before .before .before .before .import-by .ensures)
 
 pub import-spec : {M : Type 1} → statement M
-import-spec = tie.close (tie.spec short-lent-requires check-requires import-by-requires same-length same-length-2 same-length-3 returns)
+import-spec = tie.close (tie.spec (λ c κs. search needs) (λ c κs. search needs) import-by-requires (λ c. search needs) (λ c. search needs) (λ c. search needs) returns)

@@ -13,27 +13,6 @@ clear : (c : tie.After-enum-told3)
     → Importable (c .before .before .before .before .before .before .before .args .capacity) (c .before .before .before .before .before .before .before .args .starts .now) (c .before .before .before .before .before .before .before .args .names .now) (c .before .before .before .before .before .before .before .args .board .now) (length (c .before .before .before .before .before .before .before .args .list .now)) (length (c .before .before .before .before .before .before .before .args .output .now))
 clear c = importable _ _ _ _ _ _ (c .before .before .before .before .before .before .before .pre (c .enum-told3 .given .1))
 
-enum-known-found : tie.Need-enum-known-found
-enum-known-found c = search needs
-
-new-requires : tie.Need-new-requires
-new-requires c κs = search needs
-
-enum-told : tie.Need-enum-told
-enum-told c = search needs
-
-new-requires-2 : tie.Need-new-requires-2
-new-requires-2 c κs = search needs
-
-enum-told-2 : tie.Need-enum-told-2
-enum-told-2 c = search needs
-
-new-requires-3 : tie.Need-new-requires-3
-new-requires-3 c κs = search needs
-
-enum-told-3 : tie.Need-enum-told-3
-enum-told-3 c = search needs
-
 cast-k : tie.Need-cast-k
 cast-k c = omega (arith, trailing-le 64 (c .before .before .before .before .before .before .before .args .capacity))
 
@@ -43,9 +22,6 @@ write-round-requires c κs = let w = clear (c .before) in (w .small, w .table, w
 
 empty-requires : tie.Need-empty-requires
 empty-requires c κs = clear (c .before .before .before .before .before) .listed
-
-open-requires : tie.Need-open-requires
-open-requires c κs = search needs
 
 admit-all-requires : tie.Need-admit-all-requires
 unfolding levels
@@ -61,19 +37,10 @@ returns-2 c = let e = c .before .enum-told .given .1 in (simp (e, c .new2 .ensur
 returns-3 : tie.Need-returns-3
 returns-3 c = let e = c .before .enum-told2 .given .1 in (simp (e, c .new3 .ensures), simp e, simp e, simp e, simp e)
 
-same-length : tie.Need-same-length
-same-length c = search needs
-
-same-length-2 : tie.Need-same-length-2
-same-length-2 c = search needs
-
-same-length-3 : tie.Need-same-length-3
-same-length-3 c = search needs
-
 returns-4 : tie.Need-returns-4
 unfolding levels
 returns-4 c = let p = c .before .before .before .before .before .before .before .«open» .ensures in
     made _ _ _ _ _ _ _ (c .before .before .before .before .before .before .before .before .before .before .before .before .before .before .before .before .before .enum-told3 .given .1) (c .before .before .before .before .before .before .before .before .before .before .before .before .before .before .before .before .before .before .before .before .before .before .before .before .pre) _ _ _ _ _ (p .0) (p .2) (c .before .before .before .admit-all .ensures) (c .before .before .before .before .before .before .before .before .before .before .before .empty .ensures) (c .before .before .before .before .before .before .before .before .before .before .before .before .before .before .before .write-round .ensures)
 
 pub import-by-spec : {M : Type 1} → statement M
-import-by-spec = tie.close (tie.spec enum-known-found new-requires enum-told new-requires-2 enum-told-2 new-requires-3 enum-told-3 cast-k write-round-requires empty-requires open-requires admit-all-requires returns returns-2 returns-3 same-length same-length-2 same-length-3 returns-4)
+import-by-spec = tie.close (tie.spec (λ c. search needs) (λ c κs. search needs) (λ c. search needs) (λ c κs. search needs) (λ c. search needs) (λ c κs. search needs) (λ c. search needs) cast-k write-round-requires empty-requires (λ c κs. search needs) admit-all-requires returns returns-2 returns-3 (λ c. search needs) (λ c. search needs) (λ c. search needs) returns-4)

@@ -23,18 +23,6 @@ long c e =
     let a = c .before .before .before .before .before .before .before .before .before .before .before .before .before .args in
     shares-long (a .capacity) (a .starts .now) (a .names .now) (a .board .now) (a .rates .now) (a .owed .now) (a .other .now) (a .list .now) (a .output .now) (sym (found c) ∙ e)
 
-short-tables-requires : tie.Need-short-tables-requires
-short-tables-requires c κs = search needs
-
-short-lent-requires : tie.Need-short-lent-requires
-short-lent-requires c κs = search needs
-
-either-requires : tie.Need-either-requires
-either-requires c κs = search needs
-
-check-requires : tie.Need-check-requires
-check-requires c κs = search needs
-
 clear-by-requires : tie.Need-clear-by-requires
 clear-by-requires c κs = λ e. let l = long (c .before) e in (l .0, l .3)
 
@@ -47,26 +35,8 @@ clear-by-requires-3 c κs = λ e. let l = long (c .before .before .before .befor
 import-by-requires : tie.Need-import-by-requires
 import-by-requires c κs = let a = c .before .before .before .before .before .before .before .before .before .before .before .before .before .before .before .before .before .before .before .before .before .before .before .before .before .before .before .before .args in λ e. shares-plain (a .capacity) (a .starts .now) (a .names .now) (a .board .now) (a .rates .now) (a .owed .now) (a .other .now) (a .list .now) (a .output .now) (sym (found (c .before .before .before .before .before .before .before .before .before .before .before .before .before .before .before)) ∙ e)
 
-same-length : tie.Need-same-length
-same-length c = search needs
-
-same-length-2 : tie.Need-same-length-2
-same-length-2 c = search needs
-
-same-length-3 : tie.Need-same-length-3
-same-length-3 c = search needs
-
-same-length-4 : tie.Need-same-length-4
-same-length-4 c = search needs
-
-same-length-5 : tie.Need-same-length-5
-same-length-5 c = search needs
-
-same-length-6 : tie.Need-same-length-6
-same-length-6 c = search needs
-
 returns : tie.Need-returns
 returns c = rw (← found (c .before .before .before .before .before .before .before .before .before .before .before .before .before .before .before .before .before .before .before .before .before .before)) (c .before .before .before .before .before .before .import-by .ensures, (c .before .before .before .before .before .before .before .before .before .before .before .before .before .before .before .before .before .before .before .before .clear-by .ensures, c .before .before .before .before .before .before .before .before .before .before .before .before .before .before .before .before .clear-by2 .ensures, c .before .before .before .before .before .before .before .before .before .before .before .before .clear-by3 .ensures))
 
 pub import-shares-spec : {M : Type 1} → statement M
-import-shares-spec = tie.close (tie.spec short-tables-requires short-lent-requires either-requires check-requires clear-by-requires clear-by-requires-2 clear-by-requires-3 import-by-requires same-length same-length-2 same-length-3 same-length-4 same-length-5 same-length-6 returns)
+import-shares-spec = tie.close (tie.spec (λ c κs. search needs) (λ c κs. search needs) (λ c κs. search needs) (λ c κs. search needs) clear-by-requires clear-by-requires-2 clear-by-requires-3 import-by-requires (λ c. search needs) (λ c. search needs) (λ c. search needs) (λ c. search needs) (λ c. search needs) (λ c. search needs) returns)

@@ -8,17 +8,8 @@ use borrow.Author.Needs.{needs}
 use Rattle.groups.proofs.rate_of.Statement.{statement}
 use Rattle.groups.proofs.rate_of.Tie as tie
 
-add-result : tie.Need-add-result
-add-result c = search needs
-
-sub-result : tie.Need-sub-result
-sub-result c = search needs
-
-shl-result : tie.Need-shl-result
-shl-result c = search needs
-
 returns : tie.Need-returns
 returns c = rw (shift-exact (c .args .k - (c .args .i + 1)) (omega (arith, c .pre .0)), add-one (c .args .i)) refl
 
 pub rate-of-spec : {M : Type 1} → statement M
-rate-of-spec = tie.close (tie.spec add-result sub-result shl-result returns)
+rate-of-spec = tie.close (tie.spec (λ c. search needs) (λ c. search needs) (λ c. search needs) returns)

@@ -1,5 +1,4 @@
 -- `groups::serve` meets its contract. Assumes nothing.
-use mathlib.Core.Path.{_≡_, sym, _∙_}
 use Prim.Native.Nat.{_+_, _<_, _≤_}
 use native.Mathlib.Omega.{arith}
 use lib.ListN.{length, getD}
@@ -19,15 +18,6 @@ placed c = served-place _ _ _ (c .before .before .before .before .before .before
 short : (c : tie.After-slice-known2) → length (c .before .before .before .before .before .before .args .names .now) ≤ 2048
 short c = names-short _ _ _ (c .before .before .before .before .before .before .pre .1) (c .before .before .before .before .before .before .pre .0)
 
-find-requires : tie.Need-find-requires
-find-requires c κs = search needs
-
-mul-p : tie.Need-mul-p
-mul-p c = search needs
-
-slice-read-p : tie.Need-slice-read-p
-slice-read-p c = search needs
-
 cast-p : tie.Need-cast-p
 cast-p c = omega (arith, c .slice-known2 .given (c .before .before .find .result))
 
@@ -46,20 +36,11 @@ next-requires c κs = omega (arith, c .before .before .slice-known2 .given (c .b
 cast-pointers : tie.Need-cast-pointers
 cast-pointers c = let p = c .before .before .before .before .before .before .before .before .before .pre in let h = next-fits _ _ _ (p .1) (p .0) _ _ (getD (c .before .before .before .before .before .before .before .before .before .args .pointers .now) (c .before .before .before .before .before .find .result) 0) (c .before .before .before .before .before .find .ensures) (c .before .before .before .before .if1 .taken) in rw (c .next .ensures, c .before .streams-of .ensures .0) (omega arith)
 
-mul-pointers : tie.Need-mul-pointers
-mul-pointers c = search needs
-
-slice-write-pointers : tie.Need-slice-write-pointers
-slice-write-pointers c = search needs
-
 mul-result : tie.Need-mul-result
 mul-result c = let h = placed (c .before .before .before) in let l = short (c .before .before .before) in rw (c .before .before .offset-of .ensures .0) (omega arith)
 
 shared-slice-read-result : tie.Need-shared-slice-read-result
 shared-slice-read-result c = let h = placed (c .before .before .before .before) in rw (c .before .before .before .offset-of .ensures .0) h
-
-same-length : tie.Need-same-length
-same-length c = search needs
 
 returns : tie.Need-returns
 returns c = (rw (c .before .before .before .offset-of .ensures .0) (name-here _ _ _ _ _ _ (c .before .before .before .before .before .before .find .ensures) (c .before .before .before .before .before .if1 .taken)), rw (c .before .next .ensures, c .before .before .streams-of .ensures .0) (moved-here _ _ _ _ _ (c .before .before .before .before .before .before .find .ensures)))
@@ -71,19 +52,5 @@ pub serve-spec : {M : Type 1} → statement M
 serve-spec =
     tie.close
     (tie.spec
-    find-requires
-    mul-p
-    slice-read-p
-    cast-p
-    offset-of-requires
-    add-at
-    streams-of-requires
-    next-requires
-    cast-pointers
-    mul-pointers
-    slice-write-pointers
-    mul-result
-    shared-slice-read-result
-    same-length
-    returns
-    returns-2)
+    (λ c κs. search needs) (λ c. search needs) (λ c. search needs) cast-p offset-of-requires add-at streams-of-requires next-requires
+    cast-pointers (λ c. search needs) (λ c. search needs) mul-result shared-slice-read-result (λ c. search needs) returns returns-2)

@@ -1,6 +1,6 @@
 -- `groups::streams_of` meets its contract. Assumes nothing.
-use mathlib.Core.Path.{_≡_, refl}
-use Prim.Native.Nat.{_+_, _-_, _/_, _≤_, _<_}
+use mathlib.Core.Path.{refl}
+use Prim.Native.Nat.{_+_, _-_}
 use native.Mathlib.Nat.{div-le-self}
 use native.Mathlib.Numerals.{add-one}
 use native.Mathlib.Omega.{arith}
@@ -11,32 +11,14 @@ use borrow.Author.Needs.{needs}
 use Rattle.groups.proofs.streams_of.Statement.{statement}
 use Rattle.groups.proofs.streams_of.Tie as tie
 
-add-result : tie.Need-add-result
-add-result c = search needs
-
-mul-result : tie.Need-mul-result
-mul-result c = search needs
-
-shared-slice-read-result : tie.Need-shared-slice-read-result
-shared-slice-read-result c = search needs
-
 cast-result : tie.Need-cast-result
 cast-result c = omega (arith, c .shared-slice-known2 .given (c .before .before .args .i + 1))
-
-mul-result-2 : tie.Need-mul-result-2
-mul-result-2 c = search needs
-
-shared-slice-read-result-2 : tie.Need-shared-slice-read-result-2
-shared-slice-read-result-2 c = search needs
 
 cast-result-2 : tie.Need-cast-result-2
 cast-result-2 c = omega (arith, c .shared-slice-known3 .given (c .before .before .before .args .i))
 
 sub-result : tie.Need-sub-result
 sub-result c = rw (add-one (c .before .before .before .args .i)) (c .before .before .before .pre .2 .up (c .before .before .before .args .i) (c .before .before .before .pre .1))
-
-rate-of-requires : tie.Need-rate-of-requires
-rate-of-requires c κs = search needs
 
 div-result : tie.Need-div-result
 div-result c = rw (c .rate-of .ensures) (pow-pos _)
@@ -51,14 +33,5 @@ pub streams-of-spec : {M : Type 1} → statement M
 streams-of-spec =
     tie.close
     (tie.spec
-    add-result
-    mul-result
-    shared-slice-read-result
-    cast-result
-    mul-result-2
-    shared-slice-read-result-2
-    cast-result-2
-    sub-result
-    rate-of-requires
-    div-result
-    returns)
+    (λ c. search needs) (λ c. search needs) (λ c. search needs) cast-result (λ c. search needs) (λ c. search needs) cast-result-2 sub-result
+    (λ c κs. search needs) div-result returns)

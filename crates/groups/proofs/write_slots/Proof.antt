@@ -1,12 +1,12 @@
 -- `groups::write_slots` meets its contract. Assumes nothing.
-use mathlib.Core.Path.{_≡_, refl, sym, ap, _∙_}
-use Prim.Native.Nat.{ℕ, _+_, _-_, _*_, _%_, _^_, _<_, _≤_}
+use mathlib.Core.Path.{_≡_, refl, ap, _∙_}
+use Prim.Native.Nat.{ℕ, _-_, _*_, _%_, _^_, _≤_}
 use native.Mathlib.Omega.{arith}
-use lib.ListN.{length, getD, replicate, length-set, length-replicate}
+use lib.ListN.{length, replicate, length-set, length-replicate}
 use lib.Pow.{pow-mono}
 use Rattle.sequences.specs.Sequences.{rb}
 use Rattle.sequences.proofs.Laws.{shift-exact}
-use Rattle.groups.specs.Rounds.{Pointing, pointersAfter, slotName, moved, roundOf}
+use Rattle.groups.specs.Rounds.{Pointing, pointersAfter}
 use Rattle.groups.proofs.Rounding.{heads}
 use Rattle.groups.proofs.Pointers.{moved-pointing}
 use Rattle.groups.proofs.Steps.{written, written-none, written-more, after-more, after-none, written-all}
@@ -81,17 +81,5 @@ pub write-slots-spec : {M : Type 1} → statement M
 write-slots-spec =
     tie.close
     (tie.spec
-    Inv-loop
-    μ-loop
-    shl-c
-    loop-holds
-    reverse-requires
-    serve-requires
-    mul-output
-    slice-write-output
-    add-t
-    loop-less
-    loop-again
-    same-length
-    same-length-2
-    returns)
+    Inv-loop μ-loop shl-c loop-holds reverse-requires serve-requires mul-output slice-write-output add-t loop-less loop-again same-length
+    same-length-2 returns)

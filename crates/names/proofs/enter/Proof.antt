@@ -12,15 +12,6 @@ add-requires c κs =
     let p = c .before .before .before .pre in
     (p .0, p .1, p .4 (c .before .if1 .taken), p .2)
 
-mul-cells : tie.Need-mul-cells
-mul-cells c = search needs
-
-add-cells : tie.Need-add-cells
-add-cells c = search needs
-
-cast-cells : tie.Need-cast-cells
-cast-cells c = search needs
-
 mul-cells-2 : tie.Need-mul-cells-2
 mul-cells-2 c =
     let a = c .before .before in
@@ -31,18 +22,12 @@ slice-write-cells c =
     let a = c .before .before in
     omega (arith, a .pre .3, place-le _ (a .pre .2) (a .args .x), a .pre .2 .room, a .pre .2 .size)
 
-same-length : tie.Need-same-length
-same-length c = search needs
-
 returns : tie.Need-returns
 returns c =
     let a = c .before .before .before .before .before .before in
     let p = a .pre in
     let z = c .before .before .before .before .if1 .taken in
     entered-new (a .args .cells .now) (p .2) (a .args .x) (a .args .v) (p .0) (p .1) (sym (p .3) ∙ z) (p .4 z) _ (c .before .before .add .ensures)
-
-same-length-2 : tie.Need-same-length-2
-same-length-2 c = search needs
 
 returns-2 : tie.Need-returns-2
 returns-2 c =
@@ -54,13 +39,5 @@ pub enter-spec : {M : Type 1} → statement M
 enter-spec =
     tie.close
     (tie.spec
-    add-requires
-    mul-cells
-    add-cells
-    cast-cells
-    mul-cells-2
-    slice-write-cells
-    same-length
-    returns
-    same-length-2
-    returns-2)
+    add-requires (λ c. search needs) (λ c. search needs) (λ c. search needs) mul-cells-2 slice-write-cells (λ c. search needs) returns
+    (λ c. search needs) returns-2)

@@ -76,21 +76,5 @@ pub find-spec : {M : Type 1} → statement M
 find-spec =
     tie.close
     (tie.spec
-    Inv-loop
-    μ-loop
-    add-n
-    mul-n
-    shared-slice-read-n
-    cast-n
-    loop-holds
-    mul-m
-    shared-slice-read-m
-    cast-m
-    returns
-    add-n-2
-    mul-n-2
-    shared-slice-read-n-2
-    cast-n-2
-    loop-less
-    loop-again
-    returns-2)
+    Inv-loop μ-loop add-n mul-n shared-slice-read-n cast-n loop-holds mul-m shared-slice-read-m cast-m returns add-n-2 mul-n-2
+    shared-slice-read-n-2 cast-n-2 loop-less loop-again returns-2)

@@ -6,24 +6,12 @@ use Rattle.orders.specs.Results.{carried, carriedBoard}
 use Rattle.orders.proofs.carry_out.Statement.{statement}
 use Rattle.orders.proofs.carry_out.Tie as tie
 
-add-by-requires : tie.Need-add-by-requires
-add-by-requires c κs = search needs
-
-same-length : tie.Need-same-length
-same-length c = search needs
-
 returns : tie.Need-returns
 unfolding carried carriedBoard
 returns c =
     let e = eq-eqb _ _ (c .before .before .before .before .if1 .taken) in
     let k = c .before .before .add-by .ensures in
     (simp (e, k .0), simp (e, k .2))
-
-remove-by-requires : tie.Need-remove-by-requires
-remove-by-requires c κs = search needs
-
-same-length-2 : tie.Need-same-length-2
-same-length-2 c = search needs
 
 returns-2 : tie.Need-returns-2
 unfolding carried carriedBoard
@@ -44,10 +32,4 @@ pub carry-out-spec : {M : Type 1} → statement M
 carry-out-spec =
     tie.close
     (tie.spec
-    add-by-requires
-    same-length
-    returns
-    remove-by-requires
-    same-length-2
-    returns-2
-    returns-3)
+    (λ c κs. search needs) (λ c. search needs) returns (λ c κs. search needs) (λ c. search needs) returns-2 returns-3)

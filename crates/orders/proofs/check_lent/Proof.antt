@@ -7,15 +7,6 @@ use Rattle.orders.specs.Checks.{lentCheck}
 use Rattle.orders.proofs.check_lent.Statement.{statement}
 use Rattle.orders.proofs.check_lent.Tie as tie
 
-check-open-requires : tie.Need-check-open-requires
-check-open-requires c κs = search needs
-
-enum-known-r : tie.Need-enum-known-r
-enum-known-r c = search needs
-
-enum-told : tie.Need-enum-told
-enum-told c = search needs
-
 returns : tie.Need-returns
 unfolding lentCheck
 returns c = simp (sym (c .before .before .before .check-open .ensures) ∙ c .before .r .given .1)
@@ -32,4 +23,4 @@ returns-3 c =
 
 pub check-lent-spec : {M : Type 1} → statement M
 check-lent-spec =
-    tie.close (tie.spec check-open-requires enum-known-r enum-told returns returns-2 returns-3)
+    tie.close (tie.spec (λ c κs. search needs) (λ c. search needs) (λ c. search needs) returns returns-2 returns-3)

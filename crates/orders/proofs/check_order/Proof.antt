@@ -6,12 +6,6 @@ use Rattle.orders.specs.Checks.{orderCheck}
 use Rattle.orders.proofs.check_order.Statement.{statement}
 use Rattle.orders.proofs.check_order.Tie as tie
 
-good-requires : tie.Need-good-requires
-good-requires c κs = search needs
-
-check-words-requires : tie.Need-check-words-requires
-check-words-requires c κs = search needs
-
 returns : tie.Need-returns
 unfolding orderCheck
 returns c = c .check-words .ensures ∙ simp (sym (c .before .before .good2 .ensures) ∙ c .before .if1 .taken)
@@ -21,4 +15,4 @@ unfolding orderCheck
 returns-2 c = simp (sym (c .before .good2 .ensures) ∙ c .if1 .left)
 
 pub check-order-spec : {M : Type 1} → statement M
-check-order-spec = tie.close (tie.spec good-requires check-words-requires returns returns-2)
+check-order-spec = tie.close (tie.spec (λ c κs. search needs) (λ c κs. search needs) returns returns-2)

@@ -6,20 +6,8 @@ use Rattle.orders.proofs.Changing.{read-rebuilt}
 use Rattle.orders.proofs.empty_after.Statement.{statement}
 use Rattle.orders.proofs.empty_after.Tie as tie
 
-enum-known-answer : tie.Need-enum-known-answer
-enum-known-answer c = search needs
-
-enum-told : tie.Need-enum-told
-enum-told c = search needs
-
-empty-requires : tie.Need-empty-requires
-empty-requires c κs = search needs
-
 returns : tie.Need-returns
 returns c = let e = c .before .answer .given .1 in (read-rebuilt _ _ e, rw e refl)
-
-same-length : tie.Need-same-length
-same-length c = search needs
 
 returns-2 : tie.Need-returns-2
 returns-2 c =
@@ -29,9 +17,4 @@ pub empty-after-spec : {M : Type 1} → statement M
 empty-after-spec =
     tie.close
     (tie.spec
-    enum-known-answer
-    enum-told
-    empty-requires
-    returns
-    same-length
-    returns-2)
+    (λ c. search needs) (λ c. search needs) (λ c κs. search needs) returns (λ c. search needs) returns-2)

@@ -6,28 +6,13 @@ use Rattle.calls.proofs.Laws.{slot-sized}
 use Rattle.orders.proofs.how_taken.Statement.{statement}
 use Rattle.orders.proofs.how_taken.Tie as tie
 
-enum-known-check : tie.Need-enum-known-check
-enum-known-check c = search needs
-
-enum-told : tie.Need-enum-told
-enum-told c = search needs
-
 must-wait-requires : tie.Need-must-wait-requires
 must-wait-requires c κs = c .before .before .before .before .pre (c .enum-told .given .1) .1
-
-cast-check-order : tie.Need-cast-check-order
-cast-check-order c = search needs
 
 check-order-requires : tie.Need-check-order-requires
 check-order-requires c κs =
     let s = slot-sized _ _ (c .before .before .before .before .before .before .before .pre (c .before .before .before .enum-told .given .1) .0) in
     (s .long, s .few)
-
-enum-known-r : tie.Need-enum-known-r
-enum-known-r c = search needs
-
-enum-told-2 : tie.Need-enum-told-2
-enum-told-2 c = search needs
 
 returns : tie.Need-returns
 returns c = simp (c .before .check .given .1)
@@ -47,14 +32,5 @@ pub how-taken-spec : {M : Type 1} → statement M
 how-taken-spec =
     tie.close
     (tie.spec
-    enum-known-check
-    enum-told
-    must-wait-requires
-    cast-check-order
-    check-order-requires
-    enum-known-r
-    enum-told-2
-    returns
-    returns-2
-    returns-3
-    returns-4)
+    (λ c. search needs) (λ c. search needs) must-wait-requires (λ c. search needs) check-order-requires
+    (λ c. search needs) (λ c. search needs) returns returns-2 returns-3 returns-4)

@@ -4,15 +4,6 @@ use borrow.Author.Needs.{needs}
 use Rattle.orders.proofs.made.Statement.{statement}
 use Rattle.orders.proofs.made.Tie as tie
 
-enum-known-change : tie.Need-enum-known-change
-enum-known-change c = search needs
-
-enum-known-change-2 : tie.Need-enum-known-change-2
-enum-known-change-2 c = search needs
-
-enum-known-change-3 : tie.Need-enum-known-change-3
-enum-known-change-3 c = search needs
-
 returns : tie.Need-returns
 returns c = simp (c .before .change .given .1)
 
@@ -26,9 +17,4 @@ pub made-spec : {M : Type 1} → statement M
 made-spec =
     tie.close
     (tie.spec
-    enum-known-change
-    enum-known-change-2
-    enum-known-change-3
-    returns
-    returns-2
-    returns-3)
+    (λ c. search needs) (λ c. search needs) (λ c. search needs) returns returns-2 returns-3)

@@ -6,37 +6,13 @@ use Rattle.orders.proofs.Changing.{lent-open, lent-long}
 use Rattle.orders.proofs.open.Statement.{statement}
 use Rattle.orders.proofs.open.Tie as tie
 
-check-lent-requires : tie.Need-check-lent-requires
-check-lent-requires c κs = search needs
-
-enum-known-r : tie.Need-enum-known-r
-enum-known-r c = search needs
-
-new-requires : tie.Need-new-requires
-new-requires c κs = search needs
-
-enum-told : tie.Need-enum-told
-enum-told c = search needs
-
 empty-requires : tie.Need-empty-requires
 empty-requires c κs = lent-long _ _ _ (sym (c .before .before .before .check-lent .ensures) ∙ c .before .enum-told .given .1)
-
-open-requires : tie.Need-open-requires
-open-requires c κs = search needs
-
-same-length : tie.Need-same-length
-same-length c = search needs
 
 returns : tie.Need-returns
 returns c =
     let e = sym (c .before .before .before .before .check-lent .ensures) ∙ c .before .before .r .given .1 in
     (simp (e, c .new .ensures), simp e, simp e, simp e)
-
-same-length-2 : tie.Need-same-length-2
-same-length-2 c = search needs
-
-same-length-3 : tie.Need-same-length-3
-same-length-3 c = search needs
 
 returns-2 : tie.Need-returns-2
 returns-2 c =
@@ -49,14 +25,5 @@ pub open-spec : {M : Type 1} → statement M
 open-spec =
     tie.close
     (tie.spec
-    check-lent-requires
-    enum-known-r
-    new-requires
-    enum-told
-    empty-requires
-    open-requires
-    same-length
-    returns
-    same-length-2
-    same-length-3
-    returns-2)
+    (λ c κs. search needs) (λ c. search needs) (λ c κs. search needs) (λ c. search needs) empty-requires
+    (λ c κs. search needs) (λ c. search needs) returns (λ c. search needs) (λ c. search needs) returns-2)

@@ -9,18 +9,6 @@ use Rattle.orders.proofs.Changing.{ran-all}
 use Rattle.orders.proofs.run.Statement.{statement}
 use Rattle.orders.proofs.run.Tie as tie
 
-counts-requires : tie.Need-counts-requires
-counts-requires c κs = search needs
-
-add-end : tie.Need-add-end
-add-end c = search needs
-
-settle-requires : tie.Need-settle-requires
-settle-requires c κs = search needs
-
-same-length : tie.Need-same-length
-same-length c = search needs
-
 returns : tie.Need-returns
 returns c =
     let a = c .before .before .before .before .before .before .before .before .before .before .before .args in
@@ -33,18 +21,6 @@ returns c =
     (sym (list-none (doing (a .drive)) (saying (a .drive)) (a .board .now) (a .list .now) (n .answers) _ (omega arith))) in
     (r .0, c .before .before .settle .ensures ∙ r .1)
 
-run-places-requires : tie.Need-run-places-requires
-run-places-requires c κs = search needs
-
-settle-requires-2 : tie.Need-settle-requires-2
-settle-requires-2 c κs = search needs
-
-same-length-2 : tie.Need-same-length-2
-same-length-2 c = search needs
-
-same-length-3 : tie.Need-same-length-3
-same-length-3 c = search needs
-
 returns-2 : tie.Need-returns-2
 returns-2 c =
     let k = c .before .before .before .before .before .before .before .before .before .before .before .before .before .before .counts .ensures in
@@ -56,13 +32,5 @@ pub run-spec : {M : Type 1} → statement M
 run-spec =
     tie.close
     (tie.spec
-    counts-requires
-    add-end
-    settle-requires
-    same-length
-    returns
-    run-places-requires
-    settle-requires-2
-    same-length-2
-    same-length-3
-    returns-2)
+    (λ c κs. search needs) (λ c. search needs) (λ c κs. search needs) (λ c. search needs) returns
+    (λ c κs. search needs) (λ c κs. search needs) (λ c. search needs) (λ c. search needs) returns-2)

@@ -5,26 +5,11 @@ use Rattle.orders.proofs.Changing.{if-slot}
 use Rattle.orders.proofs.serve.Statement.{statement}
 use Rattle.orders.proofs.serve.Tie as tie
 
-enum-known-check : tie.Need-enum-known-check
-enum-known-check c = search needs
-
-enum-told : tie.Need-enum-told
-enum-told c = search needs
-
 start-requires : tie.Need-start-requires
 start-requires c κs = c .before .before .before .before .before .before .pre (c .before .before .enum-told .given .1) .1
 
-slot-requires : tie.Need-slot-requires
-slot-requires c κs = search needs
-
 returns : tie.Need-returns
 returns c = let e = c .before .check .given .1 in (simp e, simp e, simp e, simp e)
-
-same-length : tie.Need-same-length
-same-length c = search needs
-
-same-length-2 : tie.Need-same-length-2
-same-length-2 c = search needs
 
 returns-2 : tie.Need-returns-2
 returns-2 c =
@@ -38,11 +23,4 @@ pub serve-spec : {M : Type 1} → statement M
 serve-spec =
     tie.close
     (tie.spec
-    enum-known-check
-    enum-told
-    start-requires
-    slot-requires
-    returns
-    same-length
-    same-length-2
-    returns-2)
+    (λ c. search needs) (λ c. search needs) start-requires (λ c κs. search needs) returns (λ c. search needs) (λ c. search needs) returns-2)

@@ -7,17 +7,8 @@ use Rattle.orders.proofs.Changing.{bounds-vouch}
 use Rattle.orders.proofs.slot.Statement.{statement}
 use Rattle.orders.proofs.slot.Tie as tie
 
-check-bounds-requires : tie.Need-check-bounds-requires
-check-bounds-requires c κs = search needs
-
 serve-requires : tie.Need-serve-requires
 serve-requires c κs = λ e. bounds-vouch _ _ _ (sym (c .before .before .before .check-bounds .ensures) ∙ e)
-
-same-length : tie.Need-same-length
-same-length c = search needs
-
-same-length-2 : tie.Need-same-length-2
-same-length-2 c = search needs
 
 returns : tie.Need-returns
 unfolding boardThen listThen
@@ -26,4 +17,4 @@ returns c =
 
 pub slot-spec : {M : Type 1} → statement M
 slot-spec =
-    tie.close (tie.spec check-bounds-requires serve-requires same-length same-length-2 returns)
+    tie.close (tie.spec (λ c κs. search needs) serve-requires (λ c. search needs) (λ c. search needs) returns)

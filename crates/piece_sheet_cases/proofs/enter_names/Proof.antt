@@ -47,16 +47,4 @@ pub enter-names-spec : {M : Type 1} → statement M
 enter-names-spec =
     tie.close
     (tie.spec
-    Inv-loop
-    μ-loop
-    loop-holds
-    add-enter
-    add-enter-2
-    cast-enter
-    add-enter-3
-    cast-enter-2
-    enter-requires
-    add-j
-    loop-less
-    loop-again
-    returns)
+    Inv-loop μ-loop loop-holds add-enter add-enter-2 cast-enter add-enter-3 cast-enter-2 enter-requires add-j loop-less loop-again returns)

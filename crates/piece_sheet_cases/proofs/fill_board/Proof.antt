@@ -35,12 +35,4 @@ pub fill-board-spec : {M : Type 1} → statement M
 fill-board-spec =
     tie.close
     (tie.spec
-    Inv-loop
-    μ-loop
-    loop-holds
-    mul-board
-    element-write-board
-    add-i
-    loop-less
-    loop-again
-    returns)
+    Inv-loop μ-loop loop-holds mul-board element-write-board add-i loop-less loop-again returns)

@@ -47,16 +47,5 @@ pub mark-board-spec : {M : Type 1} → statement M
 mark-board-spec =
     tie.close
     (tie.spec
-    Inv-loop
-    μ-loop
-    loop-holds
-    mul-t
-    mul-wide-leaf
-    element-copy-out-wide-leaf
-    wide-leaf-requires
-    add-t
-    add-t-2
-    add-i
-    loop-less
-    loop-again
+    Inv-loop μ-loop loop-holds mul-t mul-wide-leaf element-copy-out-wide-leaf wide-leaf-requires add-t add-t-2 add-i loop-less loop-again
     returns)

@@ -41,14 +41,4 @@ pub sum-block-spec : {M : Type 1} → statement M
 sum-block-spec =
     tie.close
     (tie.spec
-    Inv-loop
-    μ-loop
-    loop-holds
-    mul-number
-    add-number
-    number-requires
-    add-t
-    add-i
-    loop-less
-    loop-again
-    returns)
+    Inv-loop μ-loop loop-holds mul-number add-number number-requires add-t add-i loop-less loop-again returns)

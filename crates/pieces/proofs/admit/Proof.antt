@@ -4,20 +4,11 @@ use Rattle.pieces.proofs.Admitting.{no-room, placeable, all-placed}
 use Rattle.pieces.proofs.admit.Statement.{statement}
 use Rattle.pieces.proofs.admit.Tie as tie
 
-weigh-requires : tie.Need-weigh-requires
-weigh-requires c κs = search needs
-
-same-length : tie.Need-same-length
-same-length c = search needs
-
 returns : tie.Need-returns
 returns c = no-room _ _ _ _ _ (c .before .before .before .before .pre) (c .before .weigh .ensures) (c .if1 .taken)
 
 place-requires : tie.Need-place-requires
 place-requires c κs = placeable _ _ _ _ _ (c .before .before .before .before .before .pre) (c .before .before .weigh .ensures) (c .before .if1 .left)
-
-same-length-2 : tie.Need-same-length-2
-same-length-2 c = search needs
 
 returns-2 : tie.Need-returns-2
 returns-2 c =
@@ -26,4 +17,4 @@ returns-2 c =
 
 pub admit-spec : {M : Type 1} → statement M
 admit-spec =
-    tie.close (tie.spec weigh-requires same-length returns place-requires same-length-2 returns-2)
+    tie.close (tie.spec (λ c κs. search needs) (λ c. search needs) returns place-requires (λ c. search needs) returns-2)

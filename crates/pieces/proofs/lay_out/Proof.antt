@@ -3,30 +3,15 @@ use mathlib.Core.Path.{refl, _∙_}
 use native.Mathlib.Omega.{arith}
 use borrow.Author.Needs.{needs}
 use Rattle.names.proofs.Laws.{blank-empty}
-use Rattle.pieces.proofs.Laying.{holders-few, layable, laid-fresh}
+use Rattle.pieces.proofs.LayingOut.{holders-few, layable, laid-fresh}
 use Rattle.pieces.proofs.lay_out.Statement.{statement}
 use Rattle.pieces.proofs.lay_out.Tie as tie
-
-empty-requires : tie.Need-empty-requires
-empty-requires c κs = search needs
-
-slice-aggregate-weights : tie.Need-slice-aggregate-weights
-slice-aggregate-weights c = search needs
 
 weights-requires : tie.Need-weights-requires
 weights-requires c κs =
     let e = c .before .before .empty .ensures in
     let p = c .before .before .before .before .pre in
     (p .0, p .1, rw e (blank-empty 12290 refl))
-
-no-names-requires : tie.Need-no-names-requires
-no-names-requires c κs = search needs
-
-slice-aggregate-list-names : tie.Need-slice-aggregate-list-names
-slice-aggregate-list-names c = search needs
-
-slice-aggregate-list-names-2 : tie.Need-slice-aggregate-list-names-2
-slice-aggregate-list-names-2 c = search needs
 
 list-names-requires : tie.Need-list-names-requires
 list-names-requires c κs =
@@ -35,15 +20,6 @@ list-names-requires c κs =
     let k = c .before .before .before .before .before .before .before .before .slice-known .given in
     (c .before .before .before .before .weights .ensures .table, search needs, holders-few _ (a .args .board .now) _ (p .1) (p .0) (λ i. omega (arith, k i)) (c .before .before .before .before .weights .ensures) (p .2))
 
-fill-requires : tie.Need-fill-requires
-fill-requires c κs = search needs
-
-slice-aggregate-place-all : tie.Need-slice-aggregate-place-all
-slice-aggregate-place-all c = search needs
-
-slice-aggregate-place-all-2 : tie.Need-slice-aggregate-place-all-2
-slice-aggregate-place-all-2 c = search needs
-
 place-all-requires : tie.Need-place-all-requires
 place-all-requires c κs =
     let a = c .before .before .before .before .before .before .before .before .before .before .before .before .before .before .before .before .before .before in
@@ -51,9 +27,6 @@ place-all-requires c κs =
     let k = c .before .before .before .before .before .before .before .before .before .before .before .before .before .before .before .before .before .slice-known .given in
     let l = c .before .before .before .before .before .before .before .before .list-names .ensures in
     (search needs, layable _ (a .args .board .now) _ (p .1) (p .0) (λ i. omega (arith, k i)) (c .before .before .before .before .before .before .before .before .before .before .before .before .before .weights .ensures) (p .2) _ _ (l .1) (c .before .before .before .before .before .fill .ensures))
-
-same-length : tie.Need-same-length
-same-length c = search needs
 
 returns : tie.Need-returns
 returns c =
@@ -68,16 +41,5 @@ pub lay-out-spec : {M : Type 1} → statement M
 lay-out-spec =
     tie.close
     (tie.spec
-    empty-requires
-    slice-aggregate-weights
-    weights-requires
-    no-names-requires
-    slice-aggregate-list-names
-    slice-aggregate-list-names-2
-    list-names-requires
-    fill-requires
-    slice-aggregate-place-all
-    slice-aggregate-place-all-2
-    place-all-requires
-    same-length
-    returns)
+    (λ c κs. search needs) (λ c. search needs) weights-requires (λ c κs. search needs) (λ c. search needs) (λ c. search needs)
+    list-names-requires (λ c κs. search needs) (λ c. search needs) (λ c. search needs) place-all-requires (λ c. search needs) returns)

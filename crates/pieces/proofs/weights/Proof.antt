@@ -10,13 +10,10 @@ scan-requires c κs =
     let p = c .before .before .before .pre in
     (search needs, omega arith, p .2 .table, omega (arith, p .2 .none))
 
-same-length : tie.Need-same-length
-same-length c = search needs
-
 returns : tie.Need-returns
 returns c =
     let a = c .before .before .before .before .before .before in
     scanned-weighed _ (a .args .board .now) (λ i. omega (arith, c .before .before .before .before .before .shared-slice-known .given i)) (a .pre .1) _ _ _ (empty-clear _ (a .pre .2)) (c .before .before .scan .ensures)
 
 pub weights-spec : {M : Type 1} → statement M
-weights-spec = tie.close (tie.spec scan-requires same-length returns)
+weights-spec = tie.close (tie.spec scan-requires (λ c. search needs) returns)

@@ -13,12 +13,6 @@ use Rattle.sequences.proofs.after.Tie as tie
 add-if1 : tie.Need-add-if1
 add-if1 c = let l : 2 ^ c .args .k ≤ 2 ^ 63 = pow-mono {j = 63} (omega arith) in omega arith
 
-shl-if1 : tie.Need-shl-if1
-shl-if1 c = search needs
-
-add-result : tie.Need-add-result
-add-result c = search needs
-
 returns : tie.Need-returns
 returns c =
     let a = c .before .args in
@@ -33,4 +27,4 @@ returns-2 c =
     sym (after-end (a .k) (a .p) (omega arith))
 
 pub after-spec : {M : Type 1} → statement M
-after-spec = tie.close (tie.spec add-if1 shl-if1 add-result returns returns-2)
+after-spec = tie.close (tie.spec add-if1 (λ c. search needs) (λ c. search needs) returns returns-2)

@@ -9,14 +9,8 @@ use Rattle.sequences.proofs.Stepping.{column-small, term-small, leaf-64
 use Rattle.sequences.proofs.leaf.Statement.{statement}
 use Rattle.sequences.proofs.leaf.Tie as tie
 
-column-requires : tie.Need-column-requires
-column-requires c κs = search needs
-
 start-requires : tie.Need-start-requires
 start-requires c κs = let a = c .before in omega (arith, column-small (a .args .c) (a .args .p) (a .pre))
-
-term-requires : tie.Need-term-requires
-term-requires c κs = search needs
 
 shr-reversed : tie.Need-shr-reversed
 shr-reversed c = let a = c .before .before .before in omega (arith, term-small (a .args .c) (a .args .p) (a .pre))
@@ -38,10 +32,4 @@ pub leaf-spec : {M : Type 1} → statement M
 leaf-spec =
     tie.close
     (tie.spec
-    column-requires
-    start-requires
-    term-requires
-    shr-reversed
-    reversed-requires
-    add-result
-    returns)
+    (λ c κs. search needs) start-requires (λ c κs. search needs) shr-reversed reversed-requires add-result returns)

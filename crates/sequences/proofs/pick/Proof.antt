@@ -10,14 +10,8 @@ use Rattle.sequences.proofs.Stepping.{column-small, position-small, ser
 use Rattle.sequences.proofs.pick.Statement.{statement}
 use Rattle.sequences.proofs.pick.Tie as tie
 
-column-requires : tie.Need-column-requires
-column-requires c κs = search needs
-
 bit-requires : tie.Need-bit-requires
 bit-requires c κs = let a = c .before in omega (arith, column-small (a .args .c) (a .args .p) (a .pre))
-
-sub-passed : tie.Need-sub-passed
-sub-passed c = search needs
 
 add-served : tie.Need-add-served
 add-served c = let a = c .before .before in omega (arith, position-small (a .args .c) (a .args .p) (a .pre))
@@ -37,9 +31,6 @@ leaf-requires c κs =
     let e = served-is c in
     let s = served (a .args .c) (a .args .p) (a .pre) .here in
     omega arith
-
-digits-requires : tie.Need-digits-requires
-digits-requires c κs = search needs
 
 after-requires : tie.Need-after-requires
 after-requires c κs =
@@ -62,11 +53,4 @@ pub pick-spec : {M : Type 1} → statement M
 pick-spec =
     tie.close
     (tie.spec
-    column-requires
-    bit-requires
-    sub-passed
-    add-served
-    leaf-requires
-    digits-requires
-    after-requires
-    returns)
+    (λ c κs. search needs) bit-requires (λ c. search needs) add-served leaf-requires (λ c κs. search needs) after-requires returns)

@@ -9,24 +9,6 @@ use Rattle.sequences.proofs.Reverse.{rb-split, rb-from}
 use Rattle.sequences.proofs.reversed.Statement.{statement}
 use Rattle.sequences.proofs.reversed.Tie as tie
 
-six-requires : tie.Need-six-requires
-six-requires c κs = search needs
-
-mul-result : tie.Need-mul-result
-mul-result c = search needs
-
-six-requires-2 : tie.Need-six-requires-2
-six-requires-2 c κs = search needs
-
-add-result : tie.Need-add-result
-add-result c = search needs
-
-sub-result : tie.Need-sub-result
-sub-result c = search needs
-
-shr-result : tie.Need-shr-result
-shr-result c = search needs
-
 -- The two sixes are the 12 digits.
 twelve : (c : tie.After-six2) → c .before .six .result * 64 + c .six2 .result ≡ rb (c .before .before .args .i) 12
 twelve c = omega (arith, rb-split (c .before .before .args .i) 6 6)
@@ -39,4 +21,4 @@ returns c =
 pub reversed-spec : {M : Type 1} → statement M
 reversed-spec =
     tie.close
-    (tie.spec six-requires mul-result six-requires-2 add-result sub-result shr-result returns)
+    (tie.spec (λ c κs. search needs) (λ c. search needs) (λ c κs. search needs) (λ c. search needs) (λ c. search needs) (λ c. search needs) returns)

@@ -13,9 +13,6 @@ use Rattle.sequences.proofs.start.Tie as tie
 size : (j : ℕ) → j < 63 → 2 * 2 ^ j % 2 ^ 64 ≡ 2 ^ suc j
 size j h = shl-exact 2 j 64 (omega arith) (omega arith) ∙ (omega arith)
 
-shl-result : tie.Need-shl-result
-shl-result c = search needs
-
 rem-result : tie.Need-rem-result
 rem-result c = omega (arith, size (c .args .j) (c .pre), pow-pos (suc (c .args .j)))
 
@@ -26,4 +23,4 @@ returns : tie.Need-returns
 returns c = ap (λ (x : ℕ). c .args .c - c .args .c % x) (size (c .args .j) (c .pre))
 
 pub start-spec : {M : Type 1} → statement M
-start-spec = tie.close (tie.spec shl-result rem-result sub-result returns)
+start-spec = tie.close (tie.spec (λ c. search needs) rem-result sub-result returns)

@@ -7,30 +7,6 @@ use borrow.Author.Needs.{needs}
 use Rattle.shares.proofs.check_shares.Statement.{statement}
 use Rattle.shares.proofs.check_shares.Tie as tie
 
-cast-larger : tie.Need-cast-larger
-cast-larger c = search needs
-
-cast-larger-2 : tie.Need-cast-larger-2
-cast-larger-2 c = search needs
-
-larger-requires : tie.Need-larger-requires
-larger-requires c κs = search needs
-
-lacks-requires : tie.Need-lacks-requires
-lacks-requires c κs = search needs
-
-check-pair-requires : tie.Need-check-pair-requires
-check-pair-requires c κs = search needs
-
-enum-known-r : tie.Need-enum-known-r
-enum-known-r c = search needs
-
-enum-told : tie.Need-enum-told
-enum-told c = search needs
-
-cast-fits : tie.Need-cast-fits
-cast-fits c = search needs
-
 fits-requires : tie.Need-fits-requires
 fits-requires c κs =
     let a = c .before .before .before .before .before .before .before .before .before .before .before .before .args in
@@ -55,15 +31,5 @@ pub check-shares-spec : {M : Type 1} → statement M
 check-shares-spec =
     tie.close
     (tie.spec
-    cast-larger
-    cast-larger-2
-    larger-requires
-    lacks-requires
-    check-pair-requires
-    enum-known-r
-    enum-told
-    cast-fits
-    fits-requires
-    returns
-    returns-2
-    returns-3)
+    (λ c. search needs) (λ c. search needs) (λ c κs. search needs) (λ c κs. search needs) (λ c κs. search needs) (λ c. search needs)
+    (λ c. search needs) (λ c. search needs) fits-requires returns returns-2 returns-3)

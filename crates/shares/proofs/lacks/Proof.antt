@@ -2,13 +2,9 @@
 -- Assumes nothing.
 use borrow.Author.Tests.{lt-ltb, le-ltb}
 use Rattle.shares.proofs.Readying.{last-lacks}
-use mathlib.Core.Path.{sym, _∙_}
 use borrow.Author.Needs.{needs}
 use Rattle.shares.proofs.lacks.Statement.{statement}
 use Rattle.shares.proofs.lacks.Tie as tie
-
-returns : tie.Need-returns
-returns c = search needs
 
 returns-2 : tie.Need-returns-2
 returns-2 c = simp (c .before .if1 .left, lt-ltb _ _ (c .if2 .taken))
@@ -23,7 +19,4 @@ pub lacks-spec : {M : Type 1} → statement M
 lacks-spec =
     tie.close
     (tie.spec
-    returns
-    returns-2
-    returns-3
-    returns-4)
+    (λ c. search needs) returns-2 returns-3 returns-4)

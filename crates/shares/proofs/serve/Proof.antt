@@ -1,35 +1,17 @@
 -- `shares::serve` meets its contract.
 -- Assumes nothing.
-use mathlib.Core.Path.{sym, refl, _∙_}
+use mathlib.Core.Path.{refl}
 use Rattle.shares.proofs.Doings.{same-lent}
 use Rattle.shares.proofs.Turning.{never-refused, turn-ready, turn-done}
 use borrow.Author.Needs.{needs}
 use Rattle.shares.proofs.serve.Statement.{statement}
 use Rattle.shares.proofs.serve.Tie as tie
 
-slot-requires : tie.Need-slot-requires
-slot-requires c κs = search needs
-
-enum-known-answer : tie.Need-enum-known-answer
-enum-known-answer c = search needs
-
-enum-known-answer-2 : tie.Need-enum-known-answer-2
-enum-known-answer-2 c = search needs
-
-cast-c : tie.Need-cast-c
-cast-c c = search needs
-
-cast-turn-at : tie.Need-cast-turn-at
-cast-turn-at c = search needs
-
 turn-at-requires : tie.Need-turn-at-requires
 turn-at-requires c κs = turn-ready _ _ (c .before .before .before .before .before .before .before .before .before .before .before .pre) _ (c .before .before .before .before .before .before .slot .ensures .0) _ _ _ _ (c .before .before .before .answer2 .given .1)
 
 returns : tie.Need-returns
 returns c = absurd (never-refused _ _ (c .before .before .before .before .before .before .before .before .before .pre) _ (c .before .before .before .before .slot .ensures .0) _ (c .before .answer .given .1))
-
-same-length : tie.Need-same-length
-same-length c = search needs
 
 returns-2 : tie.Need-returns-2
 returns-2 c =
@@ -41,12 +23,5 @@ pub serve-spec : {M : Type 1} → statement M
 serve-spec =
     tie.close
     (tie.spec
-    slot-requires
-    enum-known-answer
-    enum-known-answer-2
-    cast-c
-    cast-turn-at
-    turn-at-requires
-    returns
-    same-length
-    returns-2)
+    (λ c κs. search needs) (λ c. search needs) (λ c. search needs) (λ c. search needs) (λ c. search needs) turn-at-requires returns
+    (λ c. search needs) returns-2)

@@ -9,18 +9,6 @@ use borrow.Author.Needs.{needs}
 use Rattle.shares.proofs.slot.Statement.{statement}
 use Rattle.shares.proofs.slot.Tie as tie
 
-check-shares-requires : tie.Need-check-shares-requires
-check-shares-requires c κs = search needs
-
-enum-known-r : tie.Need-enum-known-r
-enum-known-r c = search needs
-
-enum-told : tie.Need-enum-told
-enum-told c = search needs
-
-both-start-requires : tie.Need-both-start-requires
-both-start-requires c κs = search needs
-
 start-requires : tie.Need-start-requires
 start-requires c κs =
     let e = sym (c .before .before .before .before .before .before .before .before .check-shares .ensures) ∙ c .before .before .before .before .before .before .enum-told .given .1 in
@@ -32,35 +20,8 @@ serve-requires c κs =
     let e = sym (c .before .before .before .before .before .before .before .before .before .before .before .before .before .before .before .before .before .before .before .before .before .before .before .check-shares .ensures) ∙ c .before .before .before .before .before .before .before .before .before .before .before .before .before .before .before .before .before .before .before .before .before .enum-told .given .1 in
     slot-ready (a .own) (a .other) (lent (a .board .now) (a .rates .now) (a .owed .now) (a .owed-other .now)) (a .list .now) e (c .before .before .before .before .before .before .before .before .before .before .before .before .before .before .before .before .before .before .before .before .both-start .result) _ (c .before .before .before .before .before .before .before .before .before .before .before .before .before .before .start .ensures .0)
 
-same-length : tie.Need-same-length
-same-length c = search needs
-
-same-length-2 : tie.Need-same-length-2
-same-length-2 c = search needs
-
-same-length-3 : tie.Need-same-length-3
-same-length-3 c = search needs
-
-same-length-4 : tie.Need-same-length-4
-same-length-4 c = search needs
-
 returns : tie.Need-returns
 returns c = let e = sym (c .before .before .before .check-shares .ensures) ∙ c .before .r .given .1 in (simp e, simp e, simp e, simp e)
-
-same-length-5 : tie.Need-same-length-5
-same-length-5 c = search needs
-
-same-length-6 : tie.Need-same-length-6
-same-length-6 c = search needs
-
-same-length-7 : tie.Need-same-length-7
-same-length-7 c = search needs
-
-same-length-8 : tie.Need-same-length-8
-same-length-8 c = search needs
-
-same-length-9 : tie.Need-same-length-9
-same-length-9 c = search needs
 
 returns-2 : tie.Need-returns-2
 returns-2 c =
@@ -74,20 +35,6 @@ pub slot-spec : {M : Type 1} → statement M
 slot-spec =
     tie.close
     (tie.spec
-    check-shares-requires
-    enum-known-r
-    enum-told
-    both-start-requires
-    start-requires
-    serve-requires
-    same-length
-    same-length-2
-    same-length-3
-    same-length-4
-    returns
-    same-length-5
-    same-length-6
-    same-length-7
-    same-length-8
-    same-length-9
-    returns-2)
+    (λ c κs. search needs) (λ c. search needs) (λ c. search needs) (λ c κs. search needs) start-requires serve-requires
+    (λ c. search needs) (λ c. search needs) (λ c. search needs) (λ c. search needs) returns
+    (λ c. search needs) (λ c. search needs) (λ c. search needs) (λ c. search needs) (λ c. search needs) returns-2)

@@ -5,23 +5,8 @@ use borrow.Author.Needs.{needs}
 use Rattle.shares.proofs.way_of.Statement.{statement}
 use Rattle.shares.proofs.way_of.Tie as tie
 
-enum-known-check : tie.Need-enum-known-check
-enum-known-check c = search needs
-
-enum-told : tie.Need-enum-told
-enum-told c = search needs
-
 must-wait-requires : tie.Need-must-wait-requires
 must-wait-requires c κs = c .before .before .before .pre (c .enum-told .given .1)
-
-check-words-requires : tie.Need-check-words-requires
-check-words-requires c κs = search needs
-
-enum-known-r : tie.Need-enum-known-r
-enum-known-r c = search needs
-
-enum-told-2 : tie.Need-enum-told-2
-enum-told-2 c = search needs
 
 returns : tie.Need-returns
 returns c = simp (c .before .check .given .1)
@@ -39,13 +24,5 @@ pub way-of-spec : {M : Type 1} → statement M
 way-of-spec =
     tie.close
     (tie.spec
-    enum-known-check
-    enum-told
-    must-wait-requires
-    check-words-requires
-    enum-known-r
-    enum-told-2
-    returns
-    returns-2
-    returns-3
-    returns-4)
+    (λ c. search needs) (λ c. search needs) must-wait-requires (λ c κs. search needs) (λ c. search needs) (λ c. search needs) returns
+    returns-2 returns-3 returns-4)

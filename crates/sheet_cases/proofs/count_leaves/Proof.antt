@@ -45,15 +45,4 @@ pub count-leaves-spec : {M : Type 1} → statement M
 count-leaves-spec =
     tie.close
     (tie.spec
-    Inv-loop
-    μ-loop
-    loop-holds
-    cast-if1
-    mul-if1
-    element-copy-out-if1
-    leaf-requires
-    add-k
-    add-i
-    loop-less
-    loop-again
-    returns)
+    Inv-loop μ-loop loop-holds cast-if1 mul-if1 element-copy-out-if1 leaf-requires add-k add-i loop-less loop-again returns)

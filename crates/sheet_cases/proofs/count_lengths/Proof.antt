@@ -39,13 +39,4 @@ pub count-lengths-spec : {M : Type 1} → statement M
 count-lengths-spec =
     tie.close
     (tie.spec
-    Inv-loop
-    μ-loop
-    loop-holds
-    read-part-requires
-    answer-of-requires
-    add-many
-    add-n
-    loop-less
-    loop-again
-    returns)
+    Inv-loop μ-loop loop-holds read-part-requires answer-of-requires add-many add-n loop-less loop-again returns)

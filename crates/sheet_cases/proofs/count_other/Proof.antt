@@ -39,13 +39,4 @@ pub count-other-spec : {M : Type 1} → statement M
 count-other-spec =
     tie.close
     (tie.spec
-    Inv-loop
-    μ-loop
-    loop-holds
-    mul-if1
-    element-copy-out-if1
-    add-n
-    add-i
-    loop-less
-    loop-again
-    returns)
+    Inv-loop μ-loop loop-holds mul-if1 element-copy-out-if1 add-n add-i loop-less loop-again returns)

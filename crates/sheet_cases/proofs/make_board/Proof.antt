@@ -41,14 +41,4 @@ pub make-board-spec : {M : Type 1} → statement M
 make-board-spec =
     tie.close
     (tie.spec
-    Inv-loop
-    μ-loop
-    loop-holds
-    leaf-requires
-    cast-board
-    mul-board
-    element-write-board
-    add-i
-    loop-less
-    loop-again
-    returns)
+    Inv-loop μ-loop loop-holds leaf-requires cast-board mul-board element-write-board add-i loop-less loop-again returns)

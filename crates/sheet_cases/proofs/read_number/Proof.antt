@@ -54,18 +54,5 @@ pub read-number-spec : {M : Type 1} → statement M
 read-number-spec =
     tie.close
     (tie.spec
-    Inv-loop
-    μ-loop
-    loop-holds
-    shared-slice-read-b
-    is-digit-requires
-    mul-v
-    wide-requires
-    add-v
-    add-i
-    loop-less
-    loop-again
-    cast-t15
-    returns
-    cast-t16
-    returns-2)
+    Inv-loop μ-loop loop-holds shared-slice-read-b is-digit-requires mul-v wide-requires add-v add-i loop-less loop-again cast-t15 returns
+    cast-t16 returns-2)

@@ -65,22 +65,6 @@ pub run-bytes-spec : {M : Type 1} → statement M
 run-bytes-spec =
     tie.close
     (tie.spec
-    Inv-loop
-    μ-loop
-    slice-aggregate-write-all
-    write-all-requires
-    show-next-requires
-    show-next-requires-2
-    show-next-requires-3
-    show-next-requires-4
-    end-line-requires
-    make-board-requires
-    new-requires
-    save-requires
-    loop-holds
-    show-byte-requires
-    add-i
-    loop-less
-    loop-again
-    end-line-requires-2
-    returns)
+    Inv-loop μ-loop slice-aggregate-write-all write-all-requires show-next-requires show-next-requires-2 show-next-requires-3
+    show-next-requires-4 end-line-requires make-board-requires new-requires save-requires loop-holds show-byte-requires add-i loop-less
+    loop-again end-line-requires-2 returns)

@@ -39,13 +39,4 @@ pub run-rows-spec : {M : Type 1} → statement M
 run-rows-spec =
     tie.close
     (tie.spec
-    Inv-loop
-    μ-loop
-    show-head-requires
-    next-number-requires
-    loop-holds
-    next-row-requires
-    add-i
-    loop-less
-    loop-again
-    returns)
+    Inv-loop μ-loop show-head-requires next-number-requires loop-holds next-row-requires add-i loop-less loop-again returns)

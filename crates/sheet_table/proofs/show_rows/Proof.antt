@@ -59,20 +59,5 @@ pub show-rows-spec : {M : Type 1} → statement M
 show-rows-spec =
     tie.close
     (tie.spec
-    Inv-loop
-    μ-loop
-    loop-holds
-    add-loop
-    mul-show-row
-    element-copy-out-show-row
-    add-show-row
-    mul-show-row-2
-    element-copy-out-show-row-2
-    add-show-row-2
-    mul-show-row-3
-    element-copy-out-show-row-3
-    show-row-requires
-    add-i
-    loop-less
-    loop-again
-    returns)
+    Inv-loop μ-loop loop-holds add-loop mul-show-row element-copy-out-show-row add-show-row mul-show-row-2 element-copy-out-show-row-2
+    add-show-row-2 mul-show-row-3 element-copy-out-show-row-3 show-row-requires add-i loop-less loop-again returns)

@@ -10,16 +10,10 @@ use Rattle.sheets.proofs.check_start.Tie as tie
 returns : tie.Need-returns
 returns c = start-short _ _ (c .if1 .taken)
 
-number-at-requires : tie.Need-number-at-requires
-number-at-requires c κs = search needs
-
-check-open-requires : tie.Need-check-open-requires
-check-open-requires c κs = search needs
-
 returns-2 : tie.Need-returns-2
 unfolding capacityIn
 returns-2 c =
     c .check-open .ensures ∙ rw (c .before .number-at .ensures .0) (sym (start-next _ _ (c .before .before .if1 .left)))
 
 pub check-start-spec : {M : Type 1} → statement M
-check-start-spec = tie.close (tie.spec returns number-at-requires check-open-requires returns-2)
+check-start-spec = tie.close (tie.spec returns (λ c κs. search needs) (λ c κs. search needs) returns-2)

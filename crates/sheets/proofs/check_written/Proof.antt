@@ -8,12 +8,6 @@ use Rattle.sheets.proofs.Checked.{good-check, bad-check, written-parts}
 use Rattle.sheets.proofs.check_written.Statement.{statement}
 use Rattle.sheets.proofs.check_written.Tie as tie
 
-good-requires : tie.Need-good-requires
-good-requires c κs = search needs
-
-block-count-requires : tie.Need-block-count-requires
-block-count-requires c κs = search needs
-
 mul-if2 : tie.Need-mul-if2
 unfolding blocks
 mul-if2 c = omega arith
@@ -33,4 +27,4 @@ returns-3 c = simp (written-parts, bad-check _ _ (sym (c .before .good2 .ensures
 
 pub check-written-spec : {M : Type 1} → statement M
 check-written-spec =
-    tie.close (tie.spec good-requires block-count-requires mul-if2 returns returns-2 returns-3)
+    tie.close (tie.spec (λ c κs. search needs) (λ c κs. search needs) mul-if2 returns returns-2 returns-3)

@@ -16,15 +16,6 @@ use Rattle.sheets.proofs.load.Tie as tie
 begun : (c : tie.After-enum-told) → startCheck (c .before .before .before .before .before .before .args .sheet .now) (c .before .before .before .before .before .before .args .board .now) ≡ Clear
 begun c = sym (c .before .before .check-start .ensures) ∙ c .enum-told .given .1
 
-check-start-requires : tie.Need-check-start-requires
-check-start-requires c κs = search needs
-
-enum-known-r : tie.Need-enum-known-r
-enum-known-r c = search needs
-
-enum-told : tie.Need-enum-told
-enum-told c = search needs
-
 number-at-requires : tie.Need-number-at-requires
 number-at-requires c κs = omega (arith, start-long _ _ (begun (c)))
 
@@ -41,15 +32,9 @@ load-leaves-requires c κs =
     let layout = laid-layout _ _ (sym (c .before .before .is-laid .ensures) ∙ c .before .if1 .taken) in
     omega arith
 
-same-length : tie.Need-same-length
-same-length c = search needs
-
 returns : tie.Need-returns
 returns c =
     read-kept leafForm _ _ _ (read-unfit leafForm _ _ _ (c .before .before .before .check-start .ensures) _ (c .before .r .given .1))
-
-same-length-2 : tie.Need-same-length-2
-same-length-2 c = search needs
 
 returns-2 : tie.Need-returns-2
 unfolding capacityIn
@@ -57,9 +42,6 @@ returns-2 c =
     read-set leafForm _ _ _ _ _ (c .before .before .before .before .before .before .number-at .ensures .0)
     (read-tested leafForm _ _ _ (c .before .before .before .before .before .before .before .before .before .check-start .ensures) (c .before .before .before .before .before .before .before .enum-told .given .1) _ (c .before .before .before .before .before .before .number-at .ensures .0) _ (c .before .before .before .before .before .is-laid .ensures) _ (c .before .before .before .before .if1 .taken) (c .before .before .load-leaves .ensures .0))
     (c .before .before .load-leaves .ensures .1)
-
-same-length-3 : tie.Need-same-length-3
-same-length-3 c = search needs
 
 returns-3 : tie.Need-returns-3
 unfolding capacityIn
@@ -70,15 +52,5 @@ pub load-spec : {M : Type 1} → statement M
 load-spec =
     tie.close
     (tie.spec
-    check-start-requires
-    enum-known-r
-    enum-told
-    number-at-requires
-    is-laid-requires
-    load-leaves-requires
-    same-length
-    returns
-    same-length-2
-    returns-2
-    same-length-3
-    returns-3)
+    (λ c κs. search needs) (λ c. search needs) (λ c. search needs) number-at-requires is-laid-requires load-leaves-requires
+    (λ c. search needs) returns (λ c. search needs) returns-2 (λ c. search needs) returns-3)

@@ -8,12 +8,6 @@ use borrow.Author.Needs.{needs}
 use Rattle.sheets.proofs.load_entries.Statement.{statement}
 use Rattle.sheets.proofs.load_entries.Tie as tie
 
-no-leaves-requires : tie.Need-no-leaves-requires
-no-leaves-requires c κs = search needs
-
-array-borrow-prefix-scratch : tie.Need-array-borrow-prefix-scratch
-array-borrow-prefix-scratch c = search needs
-
 slice-aggregate-spelt : tie.Need-slice-aggregate-spelt
 slice-aggregate-spelt c = sym (prefix-length _ _ (c .before .no-leaves .ensures) (c .before .before .before .before .pre .1))
 
@@ -29,9 +23,6 @@ good-requires c κs = let n = ap length (spelled-is _ _ _ _ (c .before .before .
 set-leaves-requires : tie.Need-set-leaves-requires
 set-leaves-requires c κs = let n = ap length (spelled-is _ _ _ _ (c .before .before .before .before .before .before .before .before .before .before .before .before .before .no-leaves .ensures) (c .before .before .before .before .before .before .before .before .before .before .before .before .before .before .before .before .pre .1) (c .before .before .before .before .before .before .before .before .before .before .spell .ensures)) ∙ spelled-length _ _ in omega (arith, n)
 
-same-length : tie.Need-same-length
-same-length c = search needs
-
 returns : tie.Need-returns
 returns c = let e = spelled-is _ _ _ _ (c .before .before .before .before .before .before .before .before .before .before .before .before .before .before .before .before .before .no-leaves .ensures) (c .before .before .before .before .before .before .before .before .before .before .before .before .before .before .before .before .before .before .before .before .pre .1) (c .before .before .before .before .before .before .before .before .before .before .before .before .before .before .spell .ensures) in (loads-good _ _ _ (c .before .before .before .before .before .before .before .before .before .before .is-laid .ensures) _ (c .before .before .before .before .before .before .before .before .before .if1 .taken) e (sym (c .before .before .before .before .before .before .before .good2 .ensures) ∙ c .before .before .before .before .before .before .if2 .taken), loads-board _ _ _ _ _ e (c .before .before .before .set-leaves .ensures))
 
@@ -45,14 +36,5 @@ pub load-entries-spec : {M : Type 1} → statement M
 load-entries-spec =
     tie.close
     (tie.spec
-    no-leaves-requires
-    array-borrow-prefix-scratch
-    slice-aggregate-spelt
-    spell-requires
-    is-laid-requires
-    good-requires
-    set-leaves-requires
-    same-length
-    returns
-    returns-2
-    returns-3)
+    (λ c κs. search needs) (λ c. search needs) slice-aggregate-spelt spell-requires is-laid-requires good-requires set-leaves-requires
+    (λ c. search needs) returns returns-2 returns-3)

@@ -14,15 +14,6 @@ use Rattle.sheets.proofs.load_pieces.Tie as tie
 begun : (c : tie.After-enum-told) → startCheck (c .before .before .before .before .before .before .args .sheet .now) (c .before .before .before .before .before .before .args .board .now) ≡ Clear
 begun c = sym (c .before .before .check-start .ensures) ∙ c .enum-told .given .1
 
-check-start-requires : tie.Need-check-start-requires
-check-start-requires c κs = search needs
-
-enum-known-r : tie.Need-enum-known-r
-enum-known-r c = search needs
-
-enum-told : tie.Need-enum-told
-enum-told c = search needs
-
 number-at-requires : tie.Need-number-at-requires
 number-at-requires c κs = omega (arith, start-long _ _ (begun (c)))
 
@@ -34,14 +25,8 @@ load-entries-requires c κs =
     let is = c .before .number-at .ensures .0 in
     omega arith
 
-same-length : tie.Need-same-length
-same-length c = search needs
-
 returns : tie.Need-returns
 returns c = read-kept pieceForm _ _ _ (read-unfit pieceForm _ _ _ (c .before .before .before .check-start .ensures) _ (c .before .r .given .1))
-
-same-length-2 : tie.Need-same-length-2
-same-length-2 c = search needs
 
 returns-2 : tie.Need-returns-2
 unfolding capacityIn
@@ -54,12 +39,5 @@ pub load-pieces-spec : {M : Type 1} → statement M
 load-pieces-spec =
     tie.close
     (tie.spec
-    check-start-requires
-    enum-known-r
-    enum-told
-    number-at-requires
-    load-entries-requires
-    same-length
-    returns
-    same-length-2
-    returns-2)
+    (λ c κs. search needs) (λ c. search needs) (λ c. search needs) number-at-requires load-entries-requires (λ c. search needs) returns
+    (λ c. search needs) returns-2)

@@ -8,39 +8,15 @@ use Rattle.sheets.proofs.Checked.{clear-read}
 use Rattle.sheets.proofs.read.Statement.{statement}
 use Rattle.sheets.proofs.read.Tie as tie
 
-load-requires : tie.Need-load-requires
-load-requires c κs = search needs
-
-enum-known-r : tie.Need-enum-known-r
-enum-known-r c = search needs
-
-new-requires : tie.Need-new-requires
-new-requires c κs = search needs
-
-enum-told : tie.Need-enum-told
-enum-told c = search needs
-
 number-at-requires : tie.Need-number-at-requires
 number-at-requires c κs =
     let readable = clear-read leafForm _ _ (sym (c .before .before .before .before .load .ensures .0) ∙ c .enum-told .given .1) in
     omega arith
 
-cast-new : tie.Need-cast-new
-cast-new c = search needs
-
-new-requires-2 : tie.Need-new-requires-2
-new-requires-2 c κs = search needs
-
-same-length : tie.Need-same-length
-same-length c = search needs
-
 returns : tie.Need-returns
 returns c =
     let refused = sym (c .before .before .before .before .before .before .load .ensures .0) ∙ c .before .before .r .given .1 in
     (rw (refused, c .new .ensures) refl, rw refused refl, c .before .before .before .before .before .before .load .ensures .1)
-
-same-length-2 : tie.Need-same-length-2
-same-length-2 c = search needs
 
 returns-2 : tie.Need-returns-2
 unfolding capacityIn
@@ -52,14 +28,5 @@ pub read-spec : {M : Type 1} → statement M
 read-spec =
     tie.close
     (tie.spec
-    load-requires
-    enum-known-r
-    new-requires
-    enum-told
-    number-at-requires
-    cast-new
-    new-requires-2
-    same-length
-    returns
-    same-length-2
-    returns-2)
+    (λ c κs. search needs) (λ c. search needs) (λ c κs. search needs) (λ c. search needs) number-at-requires
+    (λ c. search needs) (λ c κs. search needs) (λ c. search needs) returns (λ c. search needs) returns-2)

@@ -9,41 +9,14 @@ use borrow.Author.Needs.{needs}
 use Rattle.sheets.proofs.read_pieces.Statement.{statement}
 use Rattle.sheets.proofs.read_pieces.Tie as tie
 
-load-pieces-requires : tie.Need-load-pieces-requires
-load-pieces-requires c κs = search needs
-
-enum-known-r : tie.Need-enum-known-r
-enum-known-r c = search needs
-
-new-requires : tie.Need-new-requires
-new-requires c κs = search needs
-
-enum-told : tie.Need-enum-told
-enum-told c = search needs
-
 number-at-requires : tie.Need-number-at-requires
 number-at-requires c κs = let readable = clear-read pieceForm _ _ (sym (c .before .before .before .before .load-pieces .ensures .0) ∙ c .enum-told .given .1) in omega arith
 
 number-at-requires-2 : tie.Need-number-at-requires-2
 number-at-requires-2 c κs = let readable = clear-read pieceForm _ _ (sym (c .before .before .before .before .before .load-pieces .ensures .0) ∙ c .before .enum-told .given .1) in omega arith
 
-cast-new : tie.Need-cast-new
-cast-new c = search needs
-
-cast-new-2 : tie.Need-cast-new-2
-cast-new-2 c = search needs
-
-new-requires-2 : tie.Need-new-requires-2
-new-requires-2 c κs = search needs
-
-same-length : tie.Need-same-length
-same-length c = search needs
-
 returns : tie.Need-returns
 returns c = let refused = sym (c .before .before .before .before .before .before .load-pieces .ensures .0) ∙ c .before .before .r .given .1 in (rw (refused, c .new .ensures) refl, rw refused refl, c .before .before .before .before .before .before .load-pieces .ensures .1)
-
-same-length-2 : tie.Need-same-length-2
-same-length-2 c = search needs
 
 returns-2 : tie.Need-returns-2
 unfolding capacityIn positionIn
@@ -53,16 +26,5 @@ pub read-pieces-spec : {M : Type 1} → statement M
 read-pieces-spec =
     tie.close
     (tie.spec
-    load-pieces-requires
-    enum-known-r
-    new-requires
-    enum-told
-    number-at-requires
-    number-at-requires-2
-    cast-new
-    cast-new-2
-    new-requires-2
-    same-length
-    returns
-    same-length-2
-    returns-2)
+    (λ c κs. search needs) (λ c. search needs) (λ c κs. search needs) (λ c. search needs) number-at-requires number-at-requires-2
+    (λ c. search needs) (λ c. search needs) (λ c κs. search needs) (λ c. search needs) returns (λ c. search needs) returns-2)

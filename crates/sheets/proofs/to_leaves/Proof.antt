@@ -1,5 +1,4 @@
 -- `to_leaves` meets its contract. Assumes nothing.
-use mathlib.Core.Path.{refl}
 use native.Mathlib.Omega.{arith}
 use Rattle.sheets.specs.Sheet.{capacityIn}
 use Rattle.sheets.specs.Entries.{positionIn}
@@ -10,30 +9,12 @@ use borrow.Author.Needs.{needs}
 use Rattle.sheets.proofs.to_leaves.Statement.{statement}
 use Rattle.sheets.proofs.to_leaves.Tie as tie
 
-no-leaves-requires : tie.Need-no-leaves-requires
-no-leaves-requires c κs = search needs
-
-slice-aggregate-load-pieces : tie.Need-slice-aggregate-load-pieces
-slice-aggregate-load-pieces c = search needs
-
-load-pieces-requires : tie.Need-load-pieces-requires
-load-pieces-requires c κs = search needs
-
-enum-known-r : tie.Need-enum-known-r
-enum-known-r c = search needs
-
-enum-told : tie.Need-enum-told
-enum-told c = search needs
-
 number-at-requires : tie.Need-number-at-requires
 number-at-requires c κs = let r = read-sized pieceForm _ _ _ (c .before .before .before .before .before .no-leaves .ensures) (c .before .before .before .load-pieces .ensures .0) (c .enum-told .given .1) in let long = r .0 .long in let sized = r .1 in omega arith
 
 returns : tie.Need-returns
 unfolding positionIn
 returns c = converts-away pieceForm _ _ _ (c .before .before .before .before .before .before .before .no-leaves .ensures) (c .before .before .before .before .before .load-pieces .ensures .0) (c .before .before .enum-told .given .1) leafForm atStart _ _ (at-no-start _ _ (c .before .number-at .ensures .0) (c .if1 .taken))
-
-slice-aggregate-put-leaves : tie.Need-slice-aggregate-put-leaves
-slice-aggregate-put-leaves c = search needs
 
 number-at-requires-2 : tie.Need-number-at-requires-2
 number-at-requires-2 c κs = let r = read-sized pieceForm _ _ _ (c .before .before .before .before .before .before .before .before .no-leaves .ensures) (c .before .before .before .before .before .before .load-pieces .ensures .0) (c .before .before .before .enum-told .given .1) in let long = r .0 .long in let sized = r .1 in omega arith
@@ -45,9 +26,6 @@ put-leaves-requires c κs = let r = read-sized pieceForm _ _ _ (c .before .befor
 returns-2 : tie.Need-returns-2
 returns-2 c = converts-not pieceForm _ _ _ (c .before .before .before .before .before .before .no-leaves .ensures) (c .before .before .before .before .load-pieces .ensures .0) leafForm atStart _ _ (c .before .r .given .1)
 
-same-length : tie.Need-same-length
-same-length c = search needs
-
 returns-3 : tie.Need-returns-3
 unfolding capacityIn positionIn
 returns-3 c = converts-all pieceForm _ _ _ (c .before .before .before .before .before .before .before .before .before .before .before .before .before .no-leaves .ensures) (c .before .before .before .before .before .before .before .before .before .before .before .load-pieces .ensures .0) (c .before .before .before .before .before .before .before .before .enum-told .given .1) leafForm atStart (c .before .before .before .before .before .before .before .before .before .before .before .before .before .before .before .before .args .output .now) _ _ _ _ _ (c .before .before .before .before .number-at2 .ensures .0) (c .before .before .before .before .before .before .before .number-at .ensures .0) (c .before .before .before .before .before .before .before .before .before .before .before .load-pieces .ensures .1) (at-start _ _ (c .before .before .before .before .before .before .before .number-at .ensures .0) (c .before .before .before .before .before .before .if1 .left)) (c .before .before .put-leaves .ensures)
@@ -56,16 +34,5 @@ pub to-leaves-spec : {M : Type 1} → statement M
 to-leaves-spec =
     tie.close
     (tie.spec
-    no-leaves-requires
-    slice-aggregate-load-pieces
-    load-pieces-requires
-    enum-known-r
-    enum-told
-    number-at-requires
-    returns
-    slice-aggregate-put-leaves
-    number-at-requires-2
-    put-leaves-requires
-    returns-2
-    same-length
-    returns-3)
+    (λ c κs. search needs) (λ c. search needs) (λ c κs. search needs) (λ c. search needs) (λ c. search needs) number-at-requires returns
+    (λ c. search needs) number-at-requires-2 put-leaves-requires returns-2 (λ c. search needs) returns-3)

@@ -9,24 +9,6 @@ use borrow.Author.Needs.{needs}
 use Rattle.sheets.proofs.to_pieces.Statement.{statement}
 use Rattle.sheets.proofs.to_pieces.Tie as tie
 
-no-leaves-requires : tie.Need-no-leaves-requires
-no-leaves-requires c κs = search needs
-
-slice-aggregate-load : tie.Need-slice-aggregate-load
-slice-aggregate-load c = search needs
-
-load-requires : tie.Need-load-requires
-load-requires c κs = search needs
-
-enum-known-r : tie.Need-enum-known-r
-enum-known-r c = search needs
-
-enum-told : tie.Need-enum-told
-enum-told c = search needs
-
-slice-aggregate-put-pieces : tie.Need-slice-aggregate-put-pieces
-slice-aggregate-put-pieces c = search needs
-
 number-at-requires : tie.Need-number-at-requires
 number-at-requires c κs = let r = read-sized leafForm _ _ _ (c .before .before .before .before .before .before .no-leaves .ensures) (c .before .before .before .before .load .ensures .0) (c .before .enum-told .given .1) in let long = r .0 .long in let sized = r .1 in omega arith
 
@@ -37,9 +19,6 @@ put-pieces-requires c κs = let r = read-sized leafForm _ _ _ (c .before .before
 returns : tie.Need-returns
 returns c = converts-not leafForm _ _ _ (c .before .before .before .before .before .before .no-leaves .ensures) (c .before .before .before .before .load .ensures .0) pieceForm anywhere _ _ (c .before .r .given .1)
 
-same-length : tie.Need-same-length
-same-length c = search needs
-
 returns-2 : tie.Need-returns-2
 unfolding capacityIn
 returns-2 c = converts-all leafForm _ _ _ (c .before .before .before .before .before .before .before .before .before .before .before .no-leaves .ensures) (c .before .before .before .before .before .before .before .before .before .load .ensures .0) (c .before .before .before .before .before .before .enum-told .given .1) pieceForm anywhere (c .before .before .before .before .before .before .before .before .before .before .before .before .before .before .args .output .now) _ 1 _ _ _ (c .before .before .before .before .number-at .ensures .0) refl (c .before .before .before .before .before .before .before .before .before .load .ensures .1) refl (c .before .before .put-pieces .ensures)
@@ -48,14 +27,5 @@ pub to-pieces-spec : {M : Type 1} → statement M
 to-pieces-spec =
     tie.close
     (tie.spec
-    no-leaves-requires
-    slice-aggregate-load
-    load-requires
-    enum-known-r
-    enum-told
-    slice-aggregate-put-pieces
-    number-at-requires
-    put-pieces-requires
-    returns
-    same-length
-    returns-2)
+    (λ c κs. search needs) (λ c. search needs) (λ c κs. search needs) (λ c. search needs) (λ c. search needs) (λ c. search needs)
+    number-at-requires put-pieces-requires returns (λ c. search needs) returns-2)

@@ -47,13 +47,4 @@ pub clear-table-spec : {M : Type 1} → statement M
 clear-table-spec =
     tie.close
     (tie.spec
-    Inv-loop
-    μ-loop
-    loop-holds
-    mul-table
-    slice-write-table
-    add-i
-    loop-less
-    loop-again
-    same-length
-    returns)
+    Inv-loop μ-loop loop-holds mul-table slice-write-table add-i loop-less loop-again same-length returns)

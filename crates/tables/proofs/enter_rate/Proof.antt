@@ -13,17 +13,11 @@ use Rattle.tables.proofs.enter_rate.Tie as tie
 below : (c : tie.After-lowest-leaf) → c .lowest-leaf .result < c .before .before .before .args .c
 below c = rw (c .lowest-leaf .ensures) (lowest-held _ _ _ (c .before .before .before .pre .3))
 
-lowest-leaf-requires : tie.Need-lowest-leaf-requires
-lowest-leaf-requires c κs = search needs
-
 mul-rates : tie.Need-mul-rates
 mul-rates c = let h = below c in omega arith
 
 slice-write-rates : tie.Need-slice-write-rates
 slice-write-rates c = let h = below c in omega arith
-
-same-length : tie.Need-same-length
-same-length c = search needs
 
 returns : tie.Need-returns
 unfolding settled.ratedTable
@@ -31,4 +25,4 @@ returns c = rw (c .lowest-leaf .ensures) refl
 
 pub enter-rate-spec : {M : Type 1} → statement M
 enter-rate-spec =
-    tie.close (tie.spec lowest-leaf-requires mul-rates slice-write-rates same-length returns)
+    tie.close (tie.spec (λ c κs. search needs) mul-rates slice-write-rates (λ c. search needs) returns)

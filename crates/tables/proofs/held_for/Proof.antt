@@ -11,12 +11,6 @@ use Rattle.tables.proofs.held_for.Tie as tie
 returns : tie.Need-returns
 returns c = sym (ap sharing.heldFor (c .if1 .taken) ∙ held-zero)
 
-sub-digits : tie.Need-sub-digits
-sub-digits c = search needs
-
-digits-requires : tie.Need-digits-requires
-digits-requires c κs = search needs
-
 shl-result : tie.Need-shl-result
 shl-result c = omega (arith, shift-small (c .before .before .args .r) (c .digits .result) (c .before .before .pre) (c .digits .ensures))
 
@@ -24,4 +18,4 @@ returns-2 : tie.Need-returns-2
 returns-2 c = shift-held (c .before .before .args .r) (c .digits .result) (c .before .if1 .left) (c .before .before .pre) (c .digits .ensures)
 
 pub held-for-spec : {M : Type 1} → statement M
-held-for-spec = tie.close (tie.spec returns sub-digits digits-requires shl-result returns-2)
+held-for-spec = tie.close (tie.spec returns (λ c. search needs) (λ c κs. search needs) shl-result returns-2)

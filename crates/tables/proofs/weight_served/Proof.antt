@@ -13,9 +13,6 @@ use Rattle.tables.proofs.weight_served.Tie as tie
 below : (c : tie.After-lowest-leaf) → c .lowest-leaf .result < c .before .before .before .args .c
 below c = rw (c .lowest-leaf .ensures) (lowest-held _ _ _ (c .before .before .before .pre .3))
 
-lowest-leaf-requires : tie.Need-lowest-leaf-requires
-lowest-leaf-requires c κs = search needs
-
 mul-r : tie.Need-mul-r
 mul-r c = let h = below c in omega arith
 
@@ -24,9 +21,6 @@ shared-slice-read-r c = let h = below (c .before) in omega arith
 
 cast-r : tie.Need-cast-r
 cast-r c = omega (arith, c .shared-slice-known3 .given (c .before .lowest-leaf .result))
-
-weigh-requires : tie.Need-weigh-requires
-weigh-requires c κs = search needs
 
 returns : tie.Need-returns
 returns c = c .weigh .ensures ∙ served-plain _ _ _ _ _ (c .before .before .before .lowest-leaf .ensures) (c .before .if1 .taken)
@@ -38,10 +32,4 @@ pub weight-served-spec : {M : Type 1} → statement M
 weight-served-spec =
     tie.close
     (tie.spec
-    lowest-leaf-requires
-    mul-r
-    shared-slice-read-r
-    cast-r
-    weigh-requires
-    returns
-    returns-2)
+    (λ c κs. search needs) mul-r shared-slice-read-r cast-r (λ c κs. search needs) returns returns-2)

@@ -31,12 +31,6 @@ turn-requires c κs =
     let p = pow-mono {i = a .args .d} {j = 11} (a .pre .0) in
     omega (arith, a .pre .1, L .inv .0)
 
-sub-left : tie.Need-sub-left Inv-loop μ-loop
-sub-left c = search needs
-
-loop-less : tie.Need-loop-less Inv-loop μ-loop
-loop-less c = search needs
-
 loop-again : tie.Need-loop-again Inv-loop μ-loop
 loop-again c =
     let L = c .before .before .before .before .before .loop in
@@ -49,9 +43,6 @@ loop-again c =
       rw (r .0, r .1) (next .0 ∙ L .inv .2),
       rw (r .0, r .1) (next .1 ∙ L .inv .3),
     )
-
-same-length : tie.Need-same-length Inv-loop μ-loop
-same-length c = search needs
 
 returns : tie.Need-returns Inv-loop μ-loop
 unfolding nodeFrom marksFrom
@@ -66,12 +57,4 @@ pub descend-spec : {M : Type 1} → statement M
 descend-spec =
     tie.close
     (tie.spec
-    Inv-loop
-    μ-loop
-    loop-holds
-    turn-requires
-    sub-left
-    loop-less
-    loop-again
-    same-length
-    returns)
+    Inv-loop μ-loop loop-holds turn-requires (λ c. search needs) (λ c. search needs) loop-again (λ c. search needs) returns)

@@ -24,18 +24,6 @@ ended : (c : tie.After-slice-known2)
 unfolding levels
 ended c = rw (c .before .before .descend .ensures .0) (ends-leaf _ _ _ (clear (c .before .before .before .before)) _)
 
-check-requires : tie.Need-check-requires
-check-requires c κs = search needs
-
-enum-known-r : tie.Need-enum-known-r
-enum-known-r c = search needs
-
-enum-told : tie.Need-enum-told
-enum-told c = search needs
-
-enum-told-2 : tie.Need-enum-told-2
-enum-told-2 c = search needs
-
 cast-descend : tie.Need-cast-descend
 cast-descend c = omega (arith, trailing-le 64 (c .before .before .before .before .before .before .args .capacity))
 
@@ -64,9 +52,6 @@ returns c = let e = sym (c .before .before .before .check .ensures) ∙ c .befor
 returns-2 : tie.Need-returns-2
 returns-2 c = let e = sym (c .before .before .check .ensures) ∙ c .enum-told .given .1 in (simp e, simp e, simp e)
 
-same-length : tie.Need-same-length
-same-length c = search needs
-
 returns-3 : tie.Need-returns-3
 unfolding leafOf marksOf levels
 returns-3 c =
@@ -78,18 +63,5 @@ pub walk-spec : {M : Type 1} → statement M
 walk-spec =
     tie.close
     (tie.spec
-    check-requires
-    enum-known-r
-    enum-told
-    enum-told-2
-    cast-descend
-    descend-requires
-    sub-leaf
-    sub-leaf-2
-    mul-name
-    shared-slice-read-name
-    cast-leaf
-    returns
-    returns-2
-    same-length
-    returns-3)
+    (λ c κs. search needs) (λ c. search needs) (λ c. search needs) (λ c. search needs) cast-descend descend-requires sub-leaf sub-leaf-2
+    mul-name shared-slice-read-name cast-leaf returns returns-2 (λ c. search needs) returns-3)

@@ -11,18 +11,6 @@ use Rattle.waiting.proofs.fetch.Tie as tie
 returns : tie.Need-returns
 returns c = let e = lt-ltb _ _ (c .if1 .taken) in (simp e, simp e)
 
-find-requires : tie.Need-find-requires
-find-requires c κs = search needs
-
-enum-told : tie.Need-enum-told
-enum-told c = search needs
-
-enum-told-2 : tie.Need-enum-told-2
-enum-told-2 c = search needs
-
-enum-known-i : tie.Need-enum-known-i
-enum-known-i c = search needs
-
 outcome-at-requires : tie.Need-outcome-at-requires
 outcome-at-requires c κs =
     (omega arith, found-small _ _ _ (sym (c .before .before .before .before .find .ensures) ∙ c .before .before .i .given .1))
@@ -31,26 +19,17 @@ drop-at-requires : tie.Need-drop-at-requires
 drop-at-requires c κs =
     (omega arith, found-below _ _ _ (sym (c .before .before .before .before .before .before .find .ensures) ∙ c .before .before .before .before .i .given .1) .1)
 
-same-length : tie.Need-same-length
-same-length c = search needs
-
 returns-2 : tie.Need-returns-2
 returns-2 c =
     let e = sym (c .before .before .find .ensures) ∙ c .enum-told .given .1 in
     let l = le-ltb _ _ (c .before .before .before .before .if1 .left) in
     (simp (l, e), simp (l, e))
 
-same-length-2 : tie.Need-same-length-2
-same-length-2 c = search needs
-
 returns-3 : tie.Need-returns-3
 returns-3 c =
     let e = sym (c .before .before .find .ensures) ∙ c .enum-told2 .given .1 in
     let l = le-ltb _ _ (c .before .before .before .before .if1 .left) in
     (simp (l, e), simp (l, e))
-
-same-length-3 : tie.Need-same-length-3
-same-length-3 c = search needs
 
 returns-4 : tie.Need-returns-4
 returns-4 c =
@@ -62,16 +41,5 @@ pub fetch-spec : {M : Type 1} → statement M
 fetch-spec =
     tie.close
     (tie.spec
-    returns
-    find-requires
-    enum-told
-    enum-told-2
-    enum-known-i
-    outcome-at-requires
-    drop-at-requires
-    same-length
-    returns-2
-    same-length-2
-    returns-3
-    same-length-3
-    returns-4)
+    returns (λ c κs. search needs) (λ c. search needs) (λ c. search needs) (λ c. search needs) outcome-at-requires drop-at-requires
+    (λ c. search needs) returns-2 (λ c. search needs) returns-3 (λ c. search needs) returns-4)

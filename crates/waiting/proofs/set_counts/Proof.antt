@@ -8,18 +8,12 @@ use Rattle.waiting.specs.Layout.{counted}
 use Rattle.waiting.proofs.set_counts.Statement.{statement}
 use Rattle.waiting.proofs.set_counts.Tie as tie
 
-slice-write-list : tie.Need-slice-write-list
-slice-write-list c = search needs
-
 slice-write-list-2 : tie.Need-slice-write-list-2
 slice-write-list-2 c = simp length-set (omega arith)
-
-same-length : tie.Need-same-length
-same-length c = search needs
 
 returns : tie.Need-returns
 unfolding counted
 returns c = refl
 
 pub set-counts-spec : {M : Type 1} → statement M
-set-counts-spec = tie.close (tie.spec slice-write-list slice-write-list-2 same-length returns)
+set-counts-spec = tie.close (tie.spec (λ c. search needs) slice-write-list-2 (λ c. search needs) returns)

@@ -11,41 +11,10 @@ Inv-loop list from to i₀ i = Unit {0}
 abbrev μ-loop : tie.MeasureT-loop
 μ-loop list from to i₀ i = to - i
 
-loop-holds : tie.Need-loop-holds Inv-loop μ-loop
-loop-holds c = search needs
-
-mul-say-number : tie.Need-mul-say-number Inv-loop μ-loop
-mul-say-number c = search needs
-
-shared-slice-read-say-number : tie.Need-shared-slice-read-say-number Inv-loop μ-loop
-shared-slice-read-say-number c = search needs
-
-say-number-requires : tie.Need-say-number-requires Inv-loop μ-loop
-say-number-requires c κs = search needs
-
-add-i : tie.Need-add-i Inv-loop μ-loop
-add-i c = search needs
-
-loop-less : tie.Need-loop-less Inv-loop μ-loop
-loop-less c = search needs
-
-loop-again : tie.Need-loop-again Inv-loop μ-loop
-loop-again c = search needs
-
-returns : tie.Need-returns Inv-loop μ-loop
-returns c = search needs
-
 pub say-entries-spec : {M : Type 1} → statement M
 say-entries-spec =
     tie.close
     (tie.spec
-    Inv-loop
-    μ-loop
-    loop-holds
-    mul-say-number
-    shared-slice-read-say-number
-    say-number-requires
-    add-i
-    loop-less
-    loop-again
-    returns)
+    Inv-loop μ-loop
+    (λ c. search needs) (λ c. search needs) (λ c. search needs) (λ c κs. search needs) (λ c. search needs) (λ c. search needs)
+    (λ c. search needs) (λ c. search needs))

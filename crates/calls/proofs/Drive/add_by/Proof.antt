@@ -8,47 +8,20 @@ use Rattle.calls.proofs.Admitting.{placed-few, room-few, add-early, add
 use Rattle.calls.proofs.Drive.add_by.Statement.{statement}
 use Rattle.calls.proofs.Drive.add_by.Tie as tie
 
-check-admit-requires : tie.Need-check-admit-requires
-check-admit-requires c κs = search needs
-
-enum-known-r : tie.Need-enum-known-r
-enum-known-r c = search needs
-
-enum-told : tie.Need-enum-told
-enum-told c = search needs
-
-cast-c : tie.Need-cast-c
-cast-c c = search needs
-
 admit-requires : tie.Need-admit-requires
 admit-requires c κs = admit-clear _ _ _ _ (sym (c .before .before .before .before .check-admit .ensures) ∙ c .before .before .enum-told .given .1)
-
-enum-known-left : tie.Need-enum-known-left
-enum-known-left c = search needs
 
 cast-t20 : tie.Need-cast-t20
 cast-t20 c = omega (arith, admit-clear _ _ _ _ (sym (c .before .before .before .before .before .before .before .before .before .before .check-admit .ensures) ∙ c .before .before .before .before .before .before .before .before .enum-told .given .1) .small, placed-few _ _ _ _ _ (sym (c .before .left .given .1) ∙ c .before .before .before .before .before .admit .ensures .0))
 
-enum-known-idle : tie.Need-enum-known-idle
-enum-known-idle c = search needs
-
 cast-t22 : tie.Need-cast-t22
 cast-t22 c = omega (arith, admit-clear _ _ _ _ (sym (c .before .before .before .before .before .before .before .before .before .before .check-admit .ensures) ∙ c .before .before .before .before .before .before .before .before .enum-told .given .1) .small, room-few _ _ _ _ _ (sym (c .before .idle .given .1) ∙ c .before .before .before .before .before .admit .ensures .0))
-
-same-length : tie.Need-same-length
-same-length c = search needs
 
 returns : tie.Need-returns
 returns c = add-early _ _ _ _ _ (sym (c .before .before .before .check-admit .ensures) ∙ c .before .r .given .1)
 
-same-length-2 : tie.Need-same-length-2
-same-length-2 c = search needs
-
 returns-2 : tie.Need-returns-2
 returns-2 c = add-placed _ _ _ _ (sym (c .before .before .before .before .before .before .before .before .before .before .check-admit .ensures) ∙ c .before .before .before .before .before .before .before .before .enum-told .given .1) _ _ (c .before .before .before .before .before .admit .ensures .1) (sym (c .before .left .given .1) ∙ c .before .before .before .before .before .admit .ensures .0)
-
-same-length-3 : tie.Need-same-length-3
-same-length-3 c = search needs
 
 returns-3 : tie.Need-returns-3
 returns-3 c = add-room _ _ _ _ (sym (c .before .before .before .before .before .before .before .before .before .before .check-admit .ensures) ∙ c .before .before .before .before .before .before .before .before .enum-told .given .1) _ _ (c .before .before .before .before .before .admit .ensures .1) (sym (c .before .idle .given .1) ∙ c .before .before .before .before .before .admit .ensures .0)
@@ -57,18 +30,5 @@ pub add-by-spec : {M : Type 1} → statement M
 add-by-spec =
     tie.close
     (tie.spec
-    check-admit-requires
-    enum-known-r
-    enum-told
-    cast-c
-    admit-requires
-    enum-known-left
-    cast-t20
-    enum-known-idle
-    cast-t22
-    same-length
-    returns
-    same-length-2
-    returns-2
-    same-length-3
-    returns-3)
+    (λ c κs. search needs) (λ c. search needs) (λ c. search needs) (λ c. search needs) admit-requires (λ c. search needs) cast-t20
+    (λ c. search needs) cast-t22 (λ c. search needs) returns (λ c. search needs) returns-2 (λ c. search needs) returns-3)

@@ -6,15 +6,6 @@ use Rattle.calls.proofs.Checking.{admit-parts, change-slot, slot-sized}
 use Rattle.calls.proofs.Drive.check_admit.Statement.{statement}
 use Rattle.calls.proofs.Drive.check_admit.Tie as tie
 
-enum-known-found : tie.Need-enum-known-found
-enum-known-found c = search needs
-
-enum-told : tie.Need-enum-told
-enum-told c = search needs
-
-cast-check-new : tie.Need-cast-check-new
-cast-check-new c = search needs
-
 check-new-requires : tie.Need-check-new-requires
 check-new-requires c κs =
     let s = slot-sized _ _ (change-slot _ _ (sym (c .before .before .before .before .pre) ∙ c .before .enum-told .given .1)) in
@@ -30,4 +21,4 @@ returns-2 c =
 pub check-admit-spec : {M : Type 1} → statement M
 check-admit-spec =
     tie.close
-    (tie.spec enum-known-found enum-told cast-check-new check-new-requires returns returns-2)
+    (tie.spec (λ c. search needs) (λ c. search needs) (λ c. search needs) check-new-requires returns returns-2)

@@ -7,18 +7,6 @@ use Rattle.calls.proofs.Checking.{change-parts, slot-sized}
 use Rattle.calls.proofs.Drive.check_change.Statement.{statement}
 use Rattle.calls.proofs.Drive.check_change.Tie as tie
 
-check-slot-requires : tie.Need-check-slot-requires
-check-slot-requires c κs = search needs
-
-enum-known-r : tie.Need-enum-known-r
-enum-known-r c = search needs
-
-enum-told : tie.Need-enum-told
-enum-told c = search needs
-
-cast-check-good : tie.Need-cast-check-good
-cast-check-good c = search needs
-
 check-good-requires : tie.Need-check-good-requires
 check-good-requires c κs =
     let s = slot-sized _ _ (sym (c .before .before .before .before .before .check-slot .ensures) ∙ c .before .before .before .enum-told .given .1) in
@@ -39,11 +27,4 @@ pub check-change-spec : {M : Type 1} → statement M
 check-change-spec =
     tie.close
     (tie.spec
-    check-slot-requires
-    enum-known-r
-    enum-told
-    cast-check-good
-    check-good-requires
-    returns
-    returns-2
-    returns-3)
+    (λ c κs. search needs) (λ c. search needs) (λ c. search needs) (λ c. search needs) check-good-requires returns returns-2 returns-3)

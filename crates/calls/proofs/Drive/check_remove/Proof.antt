@@ -6,15 +6,6 @@ use Rattle.calls.proofs.Checking.{remove-parts, change-slot, slot-sized
 use Rattle.calls.proofs.Drive.check_remove.Statement.{statement}
 use Rattle.calls.proofs.Drive.check_remove.Tie as tie
 
-enum-known-found : tie.Need-enum-known-found
-enum-known-found c = search needs
-
-enum-told : tie.Need-enum-told
-enum-told c = search needs
-
-cast-check-held : tie.Need-cast-check-held
-cast-check-held c = search needs
-
 check-held-requires : tie.Need-check-held-requires
 check-held-requires c κs =
     let s = slot-sized _ _ (change-slot _ _ (sym (c .before .before .before .before .pre) ∙ c .before .enum-told .given .1)) in
@@ -30,4 +21,4 @@ returns-2 c =
 pub check-remove-spec : {M : Type 1} → statement M
 check-remove-spec =
     tie.close
-    (tie.spec enum-known-found enum-told cast-check-held check-held-requires returns returns-2)
+    (tie.spec (λ c. search needs) (λ c. search needs) (λ c. search needs) check-held-requires returns returns-2)

@@ -6,28 +6,10 @@ use Rattle.calls.proofs.Checking.{report-parts, slot-sized}
 use Rattle.calls.proofs.Drive.check_report.Statement.{statement}
 use Rattle.calls.proofs.Drive.check_report.Tie as tie
 
-check-slot-requires : tie.Need-check-slot-requires
-check-slot-requires c κs = search needs
-
-enum-known-r : tie.Need-enum-known-r
-enum-known-r c = search needs
-
-enum-told : tie.Need-enum-told
-enum-told c = search needs
-
-cast-c : tie.Need-cast-c
-cast-c c = search needs
-
 check-good-requires : tie.Need-check-good-requires
 check-good-requires c κs =
     let s = slot-sized _ _ (sym (c .before .before .before .check-slot .ensures) ∙ c .before .enum-told .given .1) in
     (s .long, s .few)
-
-enum-known-r-2 : tie.Need-enum-known-r-2
-enum-known-r-2 c = search needs
-
-enum-told-2 : tie.Need-enum-told-2
-enum-told-2 c = search needs
 
 check-held-requires : tie.Need-check-held-requires
 check-held-requires c κs =
@@ -51,14 +33,5 @@ pub check-report-spec : {M : Type 1} → statement M
 check-report-spec =
     tie.close
     (tie.spec
-    check-slot-requires
-    enum-known-r
-    enum-told
-    cast-c
-    check-good-requires
-    enum-known-r-2
-    enum-told-2
-    check-held-requires
-    returns
-    returns-2
-    returns-3)
+    (λ c κs. search needs) (λ c. search needs) (λ c. search needs) (λ c. search needs) check-good-requires
+    (λ c. search needs) (λ c. search needs) check-held-requires returns returns-2 returns-3)

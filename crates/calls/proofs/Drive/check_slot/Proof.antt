@@ -6,21 +6,6 @@ use Rattle.calls.proofs.Checking.{slot-parts, open-clear}
 use Rattle.calls.proofs.Drive.check_slot.Statement.{statement}
 use Rattle.calls.proofs.Drive.check_slot.Tie as tie
 
-cast-c : tie.Need-cast-c
-cast-c c = search needs
-
-check-open-requires : tie.Need-check-open-requires
-check-open-requires c κs = search needs
-
-enum-known-r : tie.Need-enum-known-r
-enum-known-r c = search needs
-
-enum-told : tie.Need-enum-told
-enum-told c = search needs
-
-cast-check-position : tie.Need-cast-check-position
-cast-check-position c = search needs
-
 check-position-requires : tie.Need-check-position-requires
 check-position-requires c κs =
     let s = open-clear _ _ (sym (c .before .before .before .check-open .ensures) ∙ c .before .enum-told .given .1) in
@@ -38,11 +23,5 @@ pub check-slot-spec : {M : Type 1} → statement M
 check-slot-spec =
     tie.close
     (tie.spec
-    cast-c
-    check-open-requires
-    enum-known-r
-    enum-told
-    cast-check-position
-    check-position-requires
-    returns
+    (λ c. search needs) (λ c κs. search needs) (λ c. search needs) (λ c. search needs) (λ c. search needs) check-position-requires returns
     returns-2)

@@ -6,12 +6,6 @@ use Rattle.calls.proofs.Checking.{count-small}
 use Rattle.calls.proofs.Drive.counted.Statement.{statement}
 use Rattle.calls.proofs.Drive.counted.Tie as tie
 
-cast-weigh : tie.Need-cast-weigh
-cast-weigh c = search needs
-
-weigh-requires : tie.Need-weigh-requires
-weigh-requires c κs = search needs
-
 cast-t5 : tie.Need-cast-t5
 cast-t5 c = let l = count-small _ _ _ _ (c .weigh .ensures) in omega arith
 
@@ -19,4 +13,4 @@ returns : tie.Need-returns
 returns c = simp (c .weigh .ensures)
 
 pub counted-spec : {M : Type 1} → statement M
-counted-spec = tie.close (tie.spec cast-weigh weigh-requires cast-t5 returns)
+counted-spec = tie.close (tie.spec (λ c. search needs) (λ c κs. search needs) cast-t5 returns)

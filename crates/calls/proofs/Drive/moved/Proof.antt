@@ -7,9 +7,6 @@ use borrow.Author.Tests.{eq-eqb, ne-eqb}
 use Rattle.calls.proofs.Drive.moved.Statement.{statement}
 use Rattle.calls.proofs.Drive.moved.Tie as tie
 
-next-round-requires : tie.Need-next-round-requires
-next-round-requires c κs = search needs
-
 returns : tie.Need-returns
 returns c =
     let first : c .before .before .args .position ≡ 1 = let t = c .before .if1 .taken in omega arith in
@@ -21,4 +18,4 @@ returns-2 c =
     simp (ne-eqb _ 1 away)
 
 pub moved-spec : {M : Type 1} → statement M
-moved-spec = tie.close (tie.spec next-round-requires returns returns-2)
+moved-spec = tie.close (tie.spec (λ c κs. search needs) returns returns-2)

@@ -7,18 +7,6 @@ use Rattle.calls.proofs.Checking.{remove-clear}
 use Rattle.calls.proofs.Drive.remove_by.Statement.{statement}
 use Rattle.calls.proofs.Drive.remove_by.Tie as tie
 
-check-remove-requires : tie.Need-check-remove-requires
-check-remove-requires c κs = search needs
-
-enum-known-r : tie.Need-enum-known-r
-enum-known-r c = search needs
-
-enum-told : tie.Need-enum-told
-enum-told c = search needs
-
-cast-remove : tie.Need-cast-remove
-cast-remove c = search needs
-
 remove-requires : tie.Need-remove-requires
 remove-requires c κs =
     let s = remove-clear _ _ _ (sym (c .before .before .before .before .check-remove .ensures) ∙ c .before .before .enum-told .given .1) in
@@ -29,16 +17,10 @@ counted-requires c κs =
     let s = remove-clear _ _ _ (sym (c .before .before .before .before .before .before .before .before .check-remove .ensures) ∙ c .before .before .before .before .before .before .enum-told .given .1) in
     (omega (arith, c .before .before .before .remove .kept .0), s .small)
 
-same-length : tie.Need-same-length
-same-length c = search needs
-
 returns : tie.Need-returns
 returns c =
     let e = sym (c .before .before .before .check-remove .ensures) ∙ c .before .r .given .1 in
     (simp e, simp e, simp e)
-
-same-length-2 : tie.Need-same-length-2
-same-length-2 c = search needs
 
 returns-2 : tie.Need-returns-2
 returns-2 c =
@@ -50,13 +32,5 @@ pub remove-by-spec : {M : Type 1} → statement M
 remove-by-spec =
     tie.close
     (tie.spec
-    check-remove-requires
-    enum-known-r
-    enum-told
-    cast-remove
-    remove-requires
-    counted-requires
-    same-length
-    returns
-    same-length-2
-    returns-2)
+    (λ c κs. search needs) (λ c. search needs) (λ c. search needs) (λ c. search needs) remove-requires counted-requires (λ c. search needs)
+    returns (λ c. search needs) returns-2)

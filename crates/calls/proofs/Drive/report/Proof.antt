@@ -28,18 +28,6 @@ counted c =
     let l = count-small _ _ _ _ (c .weigh .ensures) in
     rw (c .weigh .ensures) (omega arith)
 
-check-report-requires : tie.Need-check-report-requires
-check-report-requires c κs = search needs
-
-enum-known-r : tie.Need-enum-known-r
-enum-known-r c = search needs
-
-enum-told : tie.Need-enum-told
-enum-told c = search needs
-
-cast-c : tie.Need-cast-c
-cast-c c = search needs
-
 weigh-requires : tie.Need-weigh-requires
 weigh-requires c κs = let s = slot-sized _ _ (report-slot _ _ _ (clear (c .before))) in (s .long, s .few)
 
@@ -82,14 +70,5 @@ pub report-spec : {M : Type 1} → statement M
 report-spec =
     tie.close
     (tie.spec
-    check-report-requires
-    enum-known-r
-    enum-told
-    cast-c
-    weigh-requires
-    spacing-requires
-    cast-t11
-    cast-t13
-    cast-t14
-    returns
-    returns-2)
+    (λ c κs. search needs) (λ c. search needs) (λ c. search needs) (λ c. search needs) weigh-requires spacing-requires cast-t11 cast-t13
+    cast-t14 returns returns-2)

@@ -29,29 +29,11 @@ small c =
     let n = position-small _ _ (next-position _ _ at) in
     rw (c .pick .ensures) (omega arith)
 
-check-slot-requires : tie.Need-check-slot-requires
-check-slot-requires c κs = search needs
-
-enum-known-r : tie.Need-enum-known-r
-enum-known-r c = search needs
-
-enum-told : tie.Need-enum-told
-enum-told c = search needs
-
-cast-pick : tie.Need-cast-pick
-cast-pick c = search needs
-
-cast-pick-2 : tie.Need-cast-pick-2
-cast-pick-2 c = search needs
-
 pick-requires : tie.Need-pick-requires
 pick-requires c κs = slot-position _ _ (clear (c .before .before))
 
 cast-moved : tie.Need-cast-moved
 cast-moved c = let s = small (c .before) in omega arith
-
-moved-requires : tie.Need-moved-requires
-moved-requires c κs = search needs
 
 mul-t10 : tie.Need-mul-t10
 mul-t10 c = let s = small (c .before .before) in omega arith
@@ -79,17 +61,5 @@ pub slot-spec : {M : Type 1} → statement M
 slot-spec =
     tie.close
     (tie.spec
-    check-slot-requires
-    enum-known-r
-    enum-told
-    cast-pick
-    cast-pick-2
-    pick-requires
-    cast-moved
-    moved-requires
-    mul-t10
-    shared-slice-read-t12
-    cast-t14
-    cast-t15
-    returns
-    returns-2)
+    (λ c κs. search needs) (λ c. search needs) (λ c. search needs) (λ c. search needs) (λ c. search needs) pick-requires cast-moved
+    (λ c κs. search needs) mul-t10 shared-slice-read-t12 cast-t14 cast-t15 returns returns-2)

@@ -6,9 +6,6 @@ use Rattle.calls.specs.Refusals.{goodCheck}
 use Rattle.calls.proofs.checks.check_good.Statement.{statement}
 use Rattle.calls.proofs.checks.check_good.Tie as tie
 
-good-requires : tie.Need-good-requires
-good-requires c κs = search needs
-
 returns : tie.Need-returns
 unfolding goodCheck
 returns c = simp (sym (c .before .good2 .ensures) ∙ c .if1 .taken)
@@ -18,4 +15,4 @@ unfolding goodCheck
 returns-2 c = simp (sym (c .before .good2 .ensures) ∙ c .if1 .left)
 
 pub check-good-spec : {M : Type 1} → statement M
-check-good-spec = tie.close (tie.spec good-requires returns returns-2)
+check-good-spec = tie.close (tie.spec (λ c κs. search needs) returns returns-2)

@@ -10,9 +10,6 @@ returns : tie.Need-returns
 unfolding heldCheck
 returns c = simp (eq-eqb _ _ (c .if1 .taken))
 
-weigh-requires : tie.Need-weigh-requires
-weigh-requires c κs = search needs
-
 returns-2 : tie.Need-returns-2
 unfolding heldCheck
 returns-2 c = simp (ne-eqb _ _ (c .before .before .if1 .left), ← c .before .weigh .ensures, eq-eqb _ _ (c .if2 .taken))
@@ -22,4 +19,4 @@ unfolding heldCheck
 returns-3 c = simp (ne-eqb _ _ (c .before .before .if1 .left), ← c .before .weigh .ensures, ne-eqb _ _ (c .if2 .left))
 
 pub check-held-spec : {M : Type 1} → statement M
-check-held-spec = tie.close (tie.spec returns weigh-requires returns-2 returns-3)
+check-held-spec = tie.close (tie.spec returns (λ c κs. search needs) returns-2 returns-3)

@@ -14,9 +14,6 @@ returns-2 : tie.Need-returns-2
 unfolding newCheck
 returns-2 c = simp (ne-eqb _ _ (c .before .if1 .left), eq-eqb _ _ (c .if2 .taken))
 
-weigh-requires : tie.Need-weigh-requires
-weigh-requires c κs = search needs
-
 returns-3 : tie.Need-returns-3
 unfolding newCheck
 returns-3 c =
@@ -30,4 +27,4 @@ returns-4 c =
     simp (ne-eqb _ _ (a .before .if1 .left), ne-eqb _ _ (a .if2 .left), ← c .before .weigh .ensures, le-ltb _ _ (c .if3 .left))
 
 pub check-new-spec : {M : Type 1} → statement M
-check-new-spec = tie.close (tie.spec returns returns-2 weigh-requires returns-3 returns-4)
+check-new-spec = tie.close (tie.spec returns returns-2 (λ c κs. search needs) returns-3 returns-4)

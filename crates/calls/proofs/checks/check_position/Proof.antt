@@ -15,9 +15,6 @@ returns : tie.Need-returns
 unfolding positionCheck
 returns c = simp (eq-eqb _ _ (c .if1 .taken))
 
-digits-requires : tie.Need-digits-requires
-digits-requires c κs = search needs
-
 shl-if2 : tie.Need-shl-if2
 shl-if2 c = let o = order (c .before .before .args .c) (c .before .before .pre .0) (c .before .before .pre .1) in omega (arith, c .digits .ensures)
 
@@ -37,4 +34,4 @@ unfolding positionCheck
 returns-3 c = simp (ne-eqb _ _ (c .before .before .if1 .left), le-ltb _ _ (rw (is (c .before)) at (c .if2 .left)))
 
 pub check-position-spec : {M : Type 1} → statement M
-check-position-spec = tie.close (tie.spec returns digits-requires shl-if2 sub-if2 returns-2 returns-3)
+check-position-spec = tie.close (tie.spec returns (λ c κs. search needs) shl-if2 sub-if2 returns-2 returns-3)

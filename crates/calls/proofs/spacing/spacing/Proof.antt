@@ -45,9 +45,6 @@ within-names c =
     let L = c .loop in
     rw (L .inv .2) (rw (slot-names-length (a .c) (a .board .now) (L .i)) at (gaps-within (a .name) (slotNames (a .c) (a .board .now) (L .i))))
 
-none-requires : tie.Need-none-requires Inv-loop μ-loop
-none-requires c κs = search needs
-
 loop-holds : tie.Need-loop-holds Inv-loop μ-loop
 unfolding afterSlots slotNames slotsOf
 loop-holds c = (search needs, search needs, c .none .ensures)
@@ -63,12 +60,6 @@ shared-slice-read-if1 c = let h = within (c .before) in omega arith
 
 served-at-requires : tie.Need-served-at-requires Inv-loop μ-loop
 served-at-requires c κs = let w = within-names (c .before .before .before .before) in omega arith
-
-add-i : tie.Need-add-i Inv-loop μ-loop
-add-i c = search needs
-
-loop-less : tie.Need-loop-less Inv-loop μ-loop
-loop-less c = search needs
 
 loop-again : tie.Need-loop-again Inv-loop μ-loop
 loop-again c =
@@ -102,16 +93,5 @@ pub spacing-spec : {M : Type 1} → statement M
 spacing-spec =
     tie.close
     (tie.spec
-    Inv-loop
-    μ-loop
-    none-requires
-    loop-holds
-    pick-requires
-    mul-if1
-    shared-slice-read-if1
-    served-at-requires
-    add-i
-    loop-less
-    loop-again
-    around-requires
-    returns)
+    Inv-loop μ-loop (λ c κs. search needs) loop-holds pick-requires mul-if1 shared-slice-read-if1 served-at-requires
+    (λ c. search needs) (λ c. search needs) loop-again around-requires returns)

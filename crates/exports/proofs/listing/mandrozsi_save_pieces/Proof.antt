@@ -1,24 +1,14 @@
 -- `mandrozsi_save_pieces` meets its contract. Assumes nothing.
-use mathlib.Core.Path.{ap}
 use Rattle.sheets.specs.declared.Saved.{Saved}
-use Rattle.exports.proofs.Replying.{replied}
+use Rattle.replies.proofs.Laws.{replied}
 use borrow.Author.Needs.{needs}
 use Rattle.exports.proofs.listing.mandrozsi_save_pieces.Statement.{statement}
 use Rattle.exports.proofs.listing.mandrozsi_save_pieces.Tie as tie
 
-save-pieces-requires : tie.Need-save-pieces-requires
-save-pieces-requires c κs = search needs
-
-said-saving-requires : tie.Need-said-saving-requires
-said-saving-requires c κs = search needs
-
-same-length : tie.Need-same-length
-same-length c = search needs
-
 returns : tie.Need-returns
 returns c =
-    let p = c .before .before .before .before .save-pieces .ensures in
-    (replied (c .said-saving .ensures) (ap (λ (r : Saved). r .drive) (p .0)) (p .1), p .2)
+    let p = c .before .before .before .save-pieces .ensures in
+    (replied (λ (r : Saved). r .drive) (c .of-saved .ensures) (p .0) (p .1), p .2)
 
 pub mandrozsi-save-pieces-spec : {M : Type 1} → statement M
-mandrozsi-save-pieces-spec = tie.close (tie.spec save-pieces-requires said-saving-requires same-length returns)
+mandrozsi-save-pieces-spec = tie.close (tie.spec (λ c κs. search needs) (λ c κs. search needs) (λ c. search needs) returns)

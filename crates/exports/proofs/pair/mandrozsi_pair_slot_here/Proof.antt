@@ -45,13 +45,13 @@ use Rattle.calls.specs.declared.Drive.{Drive}
 use Rattle.calls.proofs.Drive as D
 use Rattle.calls.proofs.Drive.Laws as D′
 use Rattle.drives.specs.Results.{served, servedAnswer, servedBoard, servedList}
-use Rattle.exports.specs.Replies.{reply}
-use Rattle.exports.specs.declared.Said.{Said}
-use Rattle.exports.specs.declared.Reply.{Reply}
-use Rattle.exports.proofs.Said as S
-use Rattle.exports.proofs.Said.Laws as S′
-use Rattle.exports.proofs.Reply as R
-use Rattle.exports.proofs.Reply.Laws as R′
+use Rattle.replies.specs.Replies.{reply}
+use Rattle.replies.specs.declared.Said.{Said}
+use Rattle.replies.specs.declared.Reply.{Reply}
+use Rattle.replies.proofs.Said as S
+use Rattle.replies.proofs.Said.Laws as S′
+use Rattle.replies.proofs.Reply as R
+use Rattle.replies.proofs.Reply.Laws as R′
 use Rattle.exports.proofs.Walking.{allocs-all, held, part, sets}
 use Rattle.exports.proofs.pair.mandrozsi_pair_slot as slot
 use Rattle.exports.proofs.pair.mandrozsi_pair_slot.Symbol as slot-symbol

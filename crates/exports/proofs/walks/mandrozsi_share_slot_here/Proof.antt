@@ -46,12 +46,12 @@ use Rattle.calls.proofs.Drive as D
 use Rattle.calls.proofs.Drive.Laws as D′
 use Rattle.shares.specs.States.{lent}
 use Rattle.exports.specs.Serving.{ShareServes}
-use Rattle.exports.specs.declared.Said.{Said}
-use Rattle.exports.specs.declared.Reply.{Reply}
-use Rattle.exports.proofs.Said as S
-use Rattle.exports.proofs.Said.Laws as S′
-use Rattle.exports.proofs.Reply as R
-use Rattle.exports.proofs.Reply.Laws as R′
+use Rattle.replies.specs.declared.Said.{Said}
+use Rattle.replies.specs.declared.Reply.{Reply}
+use Rattle.replies.proofs.Said as S
+use Rattle.replies.proofs.Said.Laws as S′
+use Rattle.replies.proofs.Reply as R
+use Rattle.replies.proofs.Reply.Laws as R′
 use Rattle.exports.proofs.Walking.{allocs-all, held, part, sets}
 use Rattle.exports.proofs.sharing.mandrozsi_share_slot as slot
 use Rattle.exports.proofs.sharing.mandrozsi_share_slot.Symbol as slot-symbol

@@ -10,29 +10,11 @@ use Rattle.lines.proofs.Keeping.{take-least, ended-hears}
 use Rattle.lines.proofs.hearing.end_line.Statement.{statement}
 use Rattle.lines.proofs.hearing.end_line.Tie as tie
 
-least-requires : tie.Need-least-requires
-least-requires c κs = search needs
-
 array-share-prefix-start : tie.Need-array-share-prefix-start
 array-share-prefix-start c = let full : length (c .before .before .before .before .before .before .args .s .start) ≡ keptBytes = search needs in omega (arith, c .least .ensures)
 
 slice-aggregate-parse : tie.Need-slice-aggregate-parse
 slice-aggregate-parse c = let full : length (c .before .before .before .before .before .before .before .args .s .start) ≡ keptBytes = search needs in sym (length-take-le _ _ (omega (arith, c .before .least .ensures)))
-
-parse-requires : tie.Need-parse-requires
-parse-requires c κs = search needs
-
-answer-requires : tie.Need-answer-requires
-answer-requires c κs = search needs
-
-same-length : tie.Need-same-length
-same-length c = search needs
-
-same-length-2 : tie.Need-same-length-2
-same-length-2 c = search needs
-
-same-length-3 : tie.Need-same-length-3
-same-length-3 c = search needs
 
 -- what is kept of a line has its place
 full : (c : tie.After-least) → length (c .before .before .before .before .before .before .args .s .start) ≡ keptBytes
@@ -48,11 +30,5 @@ pub end-line-spec : {M : Type 1} → statement M
 end-line-spec =
     tie.close
     (tie.spec
-    least-requires
-    array-share-prefix-start
-    slice-aggregate-parse
-    parse-requires
-    answer-requires
-    same-length
-    same-length-2 same-length-3
-    returns)
+    (λ c κs. search needs) array-share-prefix-start slice-aggregate-parse (λ c κs. search needs) (λ c κs. search needs) (λ c. search needs)
+    (λ c. search needs) (λ c. search needs) returns)

@@ -84,20 +84,5 @@ pub feed-spec : {M : Type 1} → statement M
 feed-spec =
     tie.close
     (tie.spec
-    Inv-loop
-    μ-loop
-    loop-holds
-    add-if1
-    same-length
-    same-length-2
-    same-length-3
-    returns
-    shared-slice-read-hear
-    hear-requires
-    add-i
-    loop-less
-    loop-again
-    same-length-4
-    same-length-5
-    same-length-6
-    returns-2)
+    Inv-loop μ-loop loop-holds add-if1 same-length same-length-2 same-length-3 returns shared-slice-read-hear hear-requires add-i loop-less
+    loop-again same-length-4 same-length-5 same-length-6 returns-2)

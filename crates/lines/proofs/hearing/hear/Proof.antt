@@ -7,23 +7,8 @@ use borrow.Author.Tests.{eq-eqb, ne-eqb}
 use Rattle.lines.proofs.hearing.hear.Statement.{statement}
 use Rattle.lines.proofs.hearing.hear.Tie as tie
 
-end-line-requires : tie.Need-end-line-requires
-end-line-requires c κs = search needs
-
-same-length : tie.Need-same-length
-same-length c = search needs
-
-same-length-2 : tie.Need-same-length-2
-same-length-2 c = search needs
-
-same-length-3 : tie.Need-same-length-3
-same-length-3 c = search needs
-
 returns : tie.Need-returns
 returns c = rw (eq-eqb _ _ (c .before .before .before .before .before .before .before .before .before .before .if1 .taken)) (c .before .before .before .before .before .before .end-line .ensures)
-
-kept-requires : tie.Need-kept-requires
-kept-requires c κs = search needs
 
 returns-2 : tie.Need-returns-2
 returns-2 c = rw (ne-eqb _ _ (c .before .if1 .left)) (record { handed = rw (c .kept .ensures, add-zero) refl; leaves = refl; waits = refl; bytes = refl; within = omega arith })
@@ -31,4 +16,4 @@ returns-2 c = rw (ne-eqb _ _ (c .before .if1 .left)) (record { handed = rw (c .k
 pub hear-spec : {M : Type 1} → statement M
 hear-spec =
     tie.close
-    (tie.spec end-line-requires same-length same-length-2 same-length-3 returns kept-requires returns-2)
+    (tie.spec (λ c κs. search needs) (λ c. search needs) (λ c. search needs) (λ c. search needs) returns (λ c κs. search needs) returns-2)

@@ -7,12 +7,6 @@ use Rattle.lines.proofs.Cuts.{place-le}
 use Rattle.lines.proofs.reading.after_two.Statement.{statement}
 use Rattle.lines.proofs.reading.after_two.Tie as tie
 
-find-requires : tie.Need-find-requires
-find-requires c κs = search needs
-
-with-two-requires : tie.Need-with-two-requires
-with-two-requires c κs = search needs
-
 returns : tie.Need-returns
 returns c = c .with-two .ensures ∙ sym (command-three _ _ _ (omega (arith, c .before .before .find .ensures)))
 
@@ -20,4 +14,4 @@ returns-2 : tie.Need-returns-2
 returns-2 c = sym (command-many _ _ (c .before .before .before .before .before .args .rest .now) (omega (arith, c .before .find .ensures, place-le 32 (c .before .before .before .before .before .args .rest .now))))
 
 pub after-two-spec : {M : Type 1} → statement M
-after-two-spec = tie.close (tie.spec find-requires with-two-requires returns returns-2)
+after-two-spec = tie.close (tie.spec (λ c κs. search needs) (λ c κs. search needs) returns returns-2)

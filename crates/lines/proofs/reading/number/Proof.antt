@@ -25,9 +25,6 @@ returns-2 c = sym (numeral-long _ _ _ (c .if2 .taken))
 loop-holds : tie.Need-loop-holds Inv-loop μ-loop
 loop-holds c = (omega arith, omega arith, numeral-read _ _ _ (c .before .if1 .left) (c .if2 .left))
 
-shared-slice-read-b : tie.Need-shared-slice-read-b Inv-loop μ-loop
-shared-slice-read-b c = search needs
-
 cast-b : tie.Need-cast-b Inv-loop μ-loop
 cast-b c = omega (arith, c .shared-slice-known .given (c .before .before .loop .i))
 
@@ -49,12 +46,6 @@ mul-value c = omega arith
 add-value : tie.Need-add-value Inv-loop μ-loop
 add-value c = omega arith
 
-add-i : tie.Need-add-i Inv-loop μ-loop
-add-i c = search needs
-
-loop-less : tie.Need-loop-less Inv-loop μ-loop
-loop-less c = search needs
-
 loop-again : tie.Need-loop-again Inv-loop μ-loop
 loop-again c = let a = c .before .before .before .before .before .before .before .before .before .args in let l = c .before .before .before .before .before .before .loop in (omega arith, omega arith, rw add-one (l .inv .2 ∙ read-more (a .limit) (l .value) (a .word .now) (l .i) (omega arith) (c .before .before .before .if3 .left) (c .before .before .if4 .left)))
 
@@ -65,20 +56,5 @@ pub number-spec : {M : Type 1} → statement M
 number-spec =
     tie.close
     (tie.spec
-    Inv-loop
-    μ-loop
-    returns
-    returns-2
-    loop-holds
-    shared-slice-read-b
-    cast-b
-    returns-3
-    returns-4
-    returns-5
-    returns-6
-    mul-value
-    add-value
-    add-i
-    loop-less
-    loop-again
-    returns-7)
+    Inv-loop μ-loop returns returns-2 loop-holds (λ c. search needs) cast-b returns-3 returns-4 returns-5 returns-6 mul-value add-value
+    (λ c. search needs) (λ c. search needs) loop-again returns-7)

@@ -7,33 +7,12 @@ use Rattle.lines.proofs.Spelling.{numeral-limit}
 use Rattle.lines.proofs.reading.with_one.Statement.{statement}
 use Rattle.lines.proofs.reading.with_one.Tie as tie
 
-number-requires : tie.Need-number-requires
-number-requires c κs = search needs
-
-enum-told : tie.Need-enum-told
-enum-told c = search needs
-
-enum-known-x : tie.Need-enum-known-x
-enum-known-x c = search needs
-
 cast-n : tie.Need-cast-n
 cast-n c = omega (arith, numeral-limit 5 65535 (c .before .before .before .before .before .before .args .first .now) (c .before .x .given .0 .0) (sym (c .before .before .before .number .ensures) ∙ c .before .x .given .1))
-
-slice-aggregate-same : tie.Need-slice-aggregate-same
-slice-aggregate-same c = search needs
-
-same-requires : tie.Need-same-requires
-same-requires c κs = search needs
 
 returns : tie.Need-returns
 unfolding withOne
 returns c = simp (sym (c .before .before .before .before .before .before .number .ensures) ∙ c .before .before .before .before .x .given .1, sym (c .before .same .ensures) ∙ c .if1 .taken)
-
-slice-aggregate-same-2 : tie.Need-slice-aggregate-same-2
-slice-aggregate-same-2 c = search needs
-
-same-requires-2 : tie.Need-same-requires-2
-same-requires-2 c κs = search needs
 
 returns-2 : tie.Need-returns-2
 unfolding withOne
@@ -51,15 +30,5 @@ pub with-one-spec : {M : Type 1} → statement M
 with-one-spec =
     tie.close
     (tie.spec
-    number-requires
-    enum-told
-    enum-known-x
-    cast-n
-    slice-aggregate-same
-    same-requires
-    returns
-    slice-aggregate-same-2
-    same-requires-2
-    returns-2
-    returns-3
-    returns-4)
+    (λ c κs. search needs) (λ c. search needs) (λ c. search needs) cast-n (λ c. search needs) (λ c κs. search needs) returns
+    (λ c. search needs) (λ c κs. search needs) returns-2 returns-3 returns-4)

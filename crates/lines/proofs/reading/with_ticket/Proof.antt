@@ -5,15 +5,6 @@ use Rattle.lines.specs.Grammar.{withTicket}
 use Rattle.lines.proofs.reading.with_ticket.Statement.{statement}
 use Rattle.lines.proofs.reading.with_ticket.Tie as tie
 
-number-requires : tie.Need-number-requires
-number-requires c κs = search needs
-
-enum-told : tie.Need-enum-told
-enum-told c = search needs
-
-enum-known-t : tie.Need-enum-known-t
-enum-known-t c = search needs
-
 returns : tie.Need-returns
 returns c = sym (ap withTicket (sym (c .before .before .number .ensures) ∙ c .enum-told .given .1))
 
@@ -21,4 +12,4 @@ returns-2 : tie.Need-returns-2
 returns-2 c = sym (ap withTicket (sym (c .before .before .before .number .ensures) ∙ c .before .t .given .1))
 
 pub with-ticket-spec : {M : Type 1} → statement M
-with-ticket-spec = tie.close (tie.spec number-requires enum-told enum-known-t returns returns-2)
+with-ticket-spec = tie.close (tie.spec (λ c κs. search needs) (λ c. search needs) (λ c. search needs) returns returns-2)

@@ -7,30 +7,6 @@ use Rattle.lines.proofs.Spelling.{numeral-limit}
 use Rattle.lines.proofs.reading.with_two.Statement.{statement}
 use Rattle.lines.proofs.reading.with_two.Tie as tie
 
-number-requires : tie.Need-number-requires
-number-requires c κs = search needs
-
-enum-told : tie.Need-enum-told
-enum-told c = search needs
-
-enum-known-x : tie.Need-enum-known-x
-enum-known-x c = search needs
-
-number-requires-2 : tie.Need-number-requires-2
-number-requires-2 c κs = search needs
-
-enum-told-2 : tie.Need-enum-told-2
-enum-told-2 c = search needs
-
-enum-known-y : tie.Need-enum-known-y
-enum-known-y c = search needs
-
-slice-aggregate-same : tie.Need-slice-aggregate-same
-slice-aggregate-same c = search needs
-
-same-requires : tie.Need-same-requires
-same-requires c κs = search needs
-
 cast-t14 : tie.Need-cast-t14
 cast-t14 c = omega (arith, numeral-limit 5 65535 (c .before .before .before .before .before .before .before .before .before .before .before .before .before .before .args .first .now) (c .before .before .before .before .before .before .before .before .x .given .0 .0) (sym (c .before .before .before .before .before .before .before .before .before .before .number .ensures) ∙ c .before .before .before .before .before .before .before .before .x .given .1))
 
@@ -57,17 +33,5 @@ pub with-two-spec : {M : Type 1} → statement M
 with-two-spec =
     tie.close
     (tie.spec
-    number-requires
-    enum-told
-    enum-known-x
-    number-requires-2
-    enum-told-2
-    enum-known-y
-    slice-aggregate-same
-    same-requires
-    cast-t14
-    cast-t15
-    returns
-    returns-2
-    returns-3
-    returns-4)
+    (λ c κs. search needs) (λ c. search needs) (λ c. search needs) (λ c κs. search needs) (λ c. search needs) (λ c. search needs)
+    (λ c. search needs) (λ c κs. search needs) cast-t14 cast-t15 returns returns-2 returns-3 returns-4)

@@ -9,25 +9,10 @@ use Rattle.lines.proofs.talking.step.Tie as tie
 returns : tie.Need-returns
 returns c = rw (lt-leb _ _ (c .if1 .taken)) (refl, refl, refl, refl)
 
-parse-requires : tie.Need-parse-requires
-parse-requires c κs = search needs
-
-answer-requires : tie.Need-answer-requires
-answer-requires c κs = search needs
-
-same-length : tie.Need-same-length
-same-length c = search needs
-
-same-length-2 : tie.Need-same-length-2
-same-length-2 c = search needs
-
-same-length-3 : tie.Need-same-length-3
-same-length-3 c = search needs
-
 returns-2 : tie.Need-returns-2
 returns-2 c = let told = rw (c .before .before .before .before .before .before .before .before .before .before .parse .ensures) at (c .before .before .before .before .before .before .answer .ensures) in
     rw (le-leb _ _ (c .before .before .before .before .before .before .before .before .before .before .before .if1 .left)) (told-start _ _ _ _ _ (told .0), told .1, told .2, told .0 .bytes)
 
 pub step-spec : {M : Type 1} → statement M
 step-spec =
-    tie.close (tie.spec returns parse-requires answer-requires same-length same-length-2 same-length-3 returns-2)
+    tie.close (tie.spec returns (λ c κs. search needs) (λ c κs. search needs) (λ c. search needs) (λ c. search needs) (λ c. search needs) returns-2)

@@ -23,21 +23,6 @@ is-named c =
     named (a .drive) (a .board .now) (o .result) (r .last .1 .1 .0) (r .result) (o .ensures) (r .ensures .0) (r .ensures .2) (r .kept .1 .1 .0)
     (c .enum-told .given .1)
 
-no-names-requires : tie.Need-no-names-requires
-no-names-requires c κs = search needs
-
-slice-aggregate-round : tie.Need-slice-aggregate-round
-slice-aggregate-round c = search needs
-
-round-requires : tie.Need-round-requires
-round-requires c κs = search needs
-
-enum-told : tie.Need-enum-told
-enum-told c = search needs
-
-cast-c : tie.Need-cast-c
-cast-c c = search needs
-
 array-share-prefix-names : tie.Need-array-share-prefix-names
 array-share-prefix-names c = is-named (c .before .before) .within
 
@@ -47,22 +32,10 @@ slice-aggregate-put-line c = sym (length-take-le _ _ (is-named (c .before .befor
 put-line-requires : tie.Need-put-line-requires
 put-line-requires c κs = let n = is-named (c .before .before .before) in rw (length-take-le _ _ (n .within)) (omega arith)
 
-enum-known-answer : tie.Need-enum-known-answer
-enum-known-answer c = search needs
-
-tell-refusal-requires : tie.Need-tell-refusal-requires
-tell-refusal-requires c κs = search needs
-
-same-length : tie.Need-same-length
-same-length c = search needs
-
 returns : tie.Need-returns
 unfolding roundLine
 returns c = let n = is-named (c .before .before .before .before .before .before) in
     rw (n .done, ← n .names) (told _ _ _ _ _ _ _ _ (c .before .before .put-line .ensures) (rw (length-take-le _ _ (n .within)) (omega (arith, n .fit))))
-
-same-length-2 : tie.Need-same-length-2
-same-length-2 c = search needs
 
 returns-2 : tie.Need-returns-2
 unfolding roundLine
@@ -75,17 +48,6 @@ pub tell-round-spec : {M : Type 1} → statement M
 tell-round-spec =
     tie.close
     (tie.spec
-    no-names-requires
-    slice-aggregate-round
-    round-requires
-    enum-told
-    cast-c
-    array-share-prefix-names
-    slice-aggregate-put-line
-    put-line-requires
-    enum-known-answer
-    tell-refusal-requires
-    same-length
-    returns
-    same-length-2
+    (λ c κs. search needs) (λ c. search needs) (λ c κs. search needs) (λ c. search needs) (λ c. search needs) array-share-prefix-names
+    slice-aggregate-put-line put-line-requires (λ c. search needs) (λ c κs. search needs) (λ c. search needs) returns (λ c. search needs)
     returns-2)

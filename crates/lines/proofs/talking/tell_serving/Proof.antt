@@ -5,29 +5,8 @@ use Rattle.lines.proofs.Telling.{told}
 use Rattle.lines.proofs.talking.tell_serving.Statement.{statement}
 use Rattle.lines.proofs.talking.tell_serving.Tie as tie
 
-enum-known-answer : tie.Need-enum-known-answer
-enum-known-answer c = search needs
-
-slice-aggregate-put-line : tie.Need-slice-aggregate-put-line
-slice-aggregate-put-line c = search needs
-
-put-line-requires : tie.Need-put-line-requires
-put-line-requires c κs = search needs
-
-enum-known-answer-2 : tie.Need-enum-known-answer-2
-enum-known-answer-2 c = search needs
-
-tell-refusal-requires : tie.Need-tell-refusal-requires
-tell-refusal-requires c κs = search needs
-
-same-length : tie.Need-same-length
-same-length c = search needs
-
 returns : tie.Need-returns
 returns c = rw (c .before .before .before .before .before .before .answer .given .1) (told _ _ _ _ _ _ _ _ (c .before .before .put-line .ensures) (omega arith))
-
-same-length-2 : tie.Need-same-length-2
-same-length-2 c = search needs
 
 returns-2 : tie.Need-returns-2
 returns-2 c = rw (c .before .before .before .before .before .answer2 .given .1) (c .before .before .tell-refusal .ensures)
@@ -36,12 +15,5 @@ pub tell-serving-spec : {M : Type 1} → statement M
 tell-serving-spec =
     tie.close
     (tie.spec
-    enum-known-answer
-    slice-aggregate-put-line
-    put-line-requires
-    enum-known-answer-2
-    tell-refusal-requires
-    same-length
-    returns
-    same-length-2
-    returns-2)
+    (λ c. search needs) (λ c. search needs) (λ c κs. search needs) (λ c. search needs) (λ c κs. search needs) (λ c. search needs) returns
+    (λ c. search needs) returns-2)

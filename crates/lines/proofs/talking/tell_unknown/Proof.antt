@@ -8,20 +8,8 @@ use Rattle.lines.specs.Printing.{unknown}
 use Rattle.lines.proofs.talking.tell_unknown.Statement.{statement}
 use Rattle.lines.proofs.talking.tell_unknown.Tie as tie
 
-slice-write-out : tie.Need-slice-write-out
-slice-write-out c = search needs
-
-add-out : tie.Need-add-out
-add-out c = search needs
-
 slice-write-out-2 : tie.Need-slice-write-out-2
 slice-write-out-2 c = simp length-set (omega arith)
-
-add-t5 : tie.Need-add-t5
-add-t5 c = search needs
-
-same-length : tie.Need-same-length
-same-length c = search needs
 
 returns : tie.Need-returns
 unfolding unknown
@@ -29,4 +17,4 @@ returns c = record { drive = refl; to = refl; bytes = rw add-one refl; within = 
 
 pub tell-unknown-spec : {M : Type 1} → statement M
 tell-unknown-spec =
-    tie.close (tie.spec slice-write-out add-out slice-write-out-2 add-t5 same-length returns)
+    tie.close (tie.spec (λ c. search needs) (λ c. search needs) slice-write-out-2 (λ c. search needs) (λ c. search needs) returns)

@@ -12,9 +12,6 @@ slice-write-out : tie.Need-slice-write-out
 unfolding field
 slice-write-out c = omega arith
 
-add-put-number : tie.Need-add-put-number
-add-put-number c = search needs
-
 put-number-requires : tie.Need-put-number-requires
 unfolding field
 put-number-requires c κs = simp length-set (omega arith)
@@ -28,4 +25,4 @@ returns c = let p = c .before .before .put-number .ensures in (omega (arith, p .
 
 pub put-field-spec : {M : Type 1} → statement M
 put-field-spec =
-    tie.close (tie.spec slice-write-out add-put-number put-number-requires same-length returns)
+    tie.close (tie.spec slice-write-out (λ c. search needs) put-number-requires same-length returns)

@@ -22,12 +22,6 @@ loop-holds : tie.Need-loop-holds Inv-loop μ-loop
 unfolding fields
 loop-holds c = (omega arith, refl, omega arith, omega arith, refl)
 
-mul-put-field : tie.Need-mul-put-field Inv-loop μ-loop
-mul-put-field c = search needs
-
-shared-slice-read-put-field : tie.Need-shared-slice-read-put-field Inv-loop μ-loop
-shared-slice-read-put-field c = search needs
-
 -- a value of 16 bits has at most five digits
 short : (c : tie.After-shared-slice-known2 Inv-loop μ-loop) → length (field (getD (c .before .before .before .before .before .before .args .values .now) (c .before .before .before .loop .i) 0)) ≤ 6
 short c = field-length 4 _ (omega (arith, c .shared-slice-known2 .given (c .before .before .before .loop .i)))
@@ -37,12 +31,6 @@ cast-put-field c = omega (arith, c .shared-slice-known2 .given (c .before .befor
 
 put-field-requires : tie.Need-put-field-requires Inv-loop μ-loop
 put-field-requires c κs = omega (arith, short c)
-
-add-i : tie.Need-add-i Inv-loop μ-loop
-add-i c = search needs
-
-loop-less : tie.Need-loop-less Inv-loop μ-loop
-loop-less c = search needs
 
 loop-again : tie.Need-loop-again Inv-loop μ-loop
 loop-again c = let a = c .before .before .before .before .before .before .before .before .before .args in
@@ -58,9 +46,6 @@ loop-again c = let a = c .before .before .before .before .before .before .before
       p .1 ∙ rw (l .inv .4, l .inv .3, more) (sets-append (a .out .now) (a .at) (fields (take (l .i) (a .values .now))) (field v)),
     )
 
-same-length : tie.Need-same-length Inv-loop μ-loop
-same-length c = search needs
-
 returns : tie.Need-returns Inv-loop μ-loop
 returns c = let a = c .before .before .before .before .args in
     let l = c .before .loop in
@@ -71,15 +56,5 @@ pub put-fields-spec : {M : Type 1} → statement M
 put-fields-spec =
     tie.close
     (tie.spec
-    Inv-loop
-    μ-loop
-    loop-holds
-    mul-put-field
-    shared-slice-read-put-field
-    cast-put-field
-    put-field-requires
-    add-i
-    loop-less
-    loop-again
-    same-length
-    returns)
+    Inv-loop μ-loop loop-holds (λ c. search needs) (λ c. search needs) cast-put-field put-field-requires
+    (λ c. search needs) (λ c. search needs) loop-again (λ c. search needs) returns)

@@ -33,9 +33,4 @@ pub put-line-spec : {M : Type 1} → statement M
 put-line-spec =
     tie.close
     (tie.spec
-    put-number-requires
-    put-fields-requires
-    slice-write-out
-    add-result
-    same-length
-    returns)
+    put-number-requires put-fields-requires slice-write-out add-result same-length returns)

@@ -39,9 +39,4 @@ pub put-value-spec : {M : Type 1} → statement M
 put-value-spec =
     tie.close
     (tie.spec
-    put-number-requires
-    put-field-requires
-    slice-write-out
-    add-result
-    same-length
-    returns)
+    put-number-requires put-field-requires slice-write-out add-result same-length returns)

@@ -7,9 +7,6 @@ use Rattle.share_boards.specs.Keeping.{lentCheck}
 use Rattle.share_boards.proofs.keeping.check_lent.Statement.{statement}
 use Rattle.share_boards.proofs.keeping.check_lent.Tie as tie
 
-lacks-requires : tie.Need-lacks-requires
-lacks-requires c κs = search needs
-
 returns : tie.Need-returns
 unfolding lentCheck tooFew
 returns c = simp (sym (c .before .lacks .ensures) ∙ c .if1 .taken)
@@ -22,6 +19,4 @@ pub check-lent-spec : {M : Type 1} → statement M
 check-lent-spec =
     tie.close
     (tie.spec
-    lacks-requires
-    returns
-    returns-2)
+    (λ c κs. search needs) returns returns-2)

@@ -6,18 +6,6 @@ use Rattle.share_boards.proofs.Lends.{opening-refused, opening-next}
 use Rattle.share_boards.proofs.keeping.check_open.Statement.{statement}
 use Rattle.share_boards.proofs.keeping.check_open.Tie as tie
 
-check-open-requires : tie.Need-check-open-requires
-check-open-requires c κs = search needs
-
-enum-known-r : tie.Need-enum-known-r
-enum-known-r c = search needs
-
-enum-told : tie.Need-enum-told
-enum-told c = search needs
-
-check-lent-requires : tie.Need-check-lent-requires
-check-lent-requires c κs = search needs
-
 returns : tie.Need-returns
 returns c = opening-refused _ _ _ _ _ _ _ (sym (c .before .before .before .check-open .ensures) ∙ c .before .r .given .1)
 
@@ -28,9 +16,4 @@ pub check-open-spec : {M : Type 1} → statement M
 check-open-spec =
     tie.close
     (tie.spec
-    check-open-requires
-    enum-known-r
-    enum-told
-    check-lent-requires
-    returns
-    returns-2)
+    (λ c κs. search needs) (λ c. search needs) (λ c. search needs) (λ c κs. search needs) returns returns-2)

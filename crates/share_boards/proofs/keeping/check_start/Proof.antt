@@ -6,20 +6,8 @@ use Rattle.share_boards.proofs.Lends.{start-long, first-refused, first-
 use Rattle.share_boards.proofs.keeping.check_start.Statement.{statement}
 use Rattle.share_boards.proofs.keeping.check_start.Tie as tie
 
-check-start-requires : tie.Need-check-start-requires
-check-start-requires c κs = search needs
-
-enum-known-r : tie.Need-enum-known-r
-enum-known-r c = search needs
-
-enum-told : tie.Need-enum-told
-enum-told c = search needs
-
 capacity-of-requires : tie.Need-capacity-of-requires
 capacity-of-requires c κs = start-long _ _ (sym (c .before .before .check-start .ensures) ∙ c .enum-told .given .1)
-
-check-lent-requires : tie.Need-check-lent-requires
-check-lent-requires c κs = search needs
 
 returns : tie.Need-returns
 returns c = first-refused _ _ _ _ _ _ _ (sym (c .before .before .before .check-start .ensures) ∙ c .before .r .given .1)
@@ -31,10 +19,4 @@ pub check-start-spec : {M : Type 1} → statement M
 check-start-spec =
     tie.close
     (tie.spec
-    check-start-requires
-    enum-known-r
-    enum-told
-    capacity-of-requires
-    check-lent-requires
-    returns
-    returns-2)
+    (λ c κs. search needs) (λ c. search needs) (λ c. search needs) capacity-of-requires (λ c κs. search needs) returns returns-2)

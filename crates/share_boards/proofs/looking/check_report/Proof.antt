@@ -8,18 +8,6 @@ use Rattle.share_boards.proofs.Looks.{ready-first, ready-held}
 use Rattle.share_boards.proofs.looking.check_report.Statement.{statement}
 use Rattle.share_boards.proofs.looking.check_report.Tie as tie
 
-check-shares-requires : tie.Need-check-shares-requires
-check-shares-requires c κs = search needs
-
-enum-known-r : tie.Need-enum-known-r
-enum-known-r c = search needs
-
-enum-told : tie.Need-enum-told
-enum-told c = search needs
-
-new-requires : tie.Need-new-requires
-new-requires c κs = search needs
-
 check-remove-requires : tie.Need-check-remove-requires
 check-remove-requires c κs = rw (c .new .ensures) (ready-change _ _ (ready-first _ _ (share-ready _ _ _ _ (sym (c .before .before .before .check-shares .ensures) ∙ c .before .enum-told .given .1))) refl)
 
@@ -38,10 +26,4 @@ pub check-report-spec : {M : Type 1} → statement M
 check-report-spec =
     tie.close
     (tie.spec
-    check-shares-requires
-    enum-known-r
-    enum-told
-    new-requires
-    check-remove-requires
-    returns
-    returns-2)
+    (λ c κs. search needs) (λ c. search needs) (λ c. search needs) (λ c κs. search needs) check-remove-requires returns returns-2)

@@ -20,18 +20,6 @@ bounded c =
     let spaced = spaced-le _ _ _ q in
     (omega arith, omega (arith, c .before .weight-served .ensures), omega (arith, c .spacing .ensures))
 
-check-report-requires : tie.Need-check-report-requires
-check-report-requires c κs = search needs
-
-enum-known-r : tie.Need-enum-known-r
-enum-known-r c = search needs
-
-enum-told : tie.Need-enum-told
-enum-told c = search needs
-
-cast-c : tie.Need-cast-c
-cast-c c = search needs
-
 weigh-requires : tie.Need-weigh-requires
 weigh-requires c κs =
     let q = reporting-clear _ _ _ _ (sym (c .before .before .before .check-report .ensures) ∙ c .before .enum-told .given .1) in
@@ -76,15 +64,5 @@ pub report-spec : {M : Type 1} → statement M
 report-spec =
     tie.close
     (tie.spec
-    check-report-requires
-    enum-known-r
-    enum-told
-    cast-c
-    weigh-requires
-    weight-served-requires
-    spacing-requires
-    cast-t16
-    cast-t18
-    cast-t19
-    returns
-    returns-2)
+    (λ c κs. search needs) (λ c. search needs) (λ c. search needs) (λ c. search needs) weigh-requires weight-served-requires
+    spacing-requires cast-t16 cast-t18 cast-t19 returns returns-2)

@@ -6,9 +6,6 @@ use Rattle.share_boards.specs.Starting.{fitCheck}
 use Rattle.share_boards.proofs.starting.check_fit.Statement.{statement}
 use Rattle.share_boards.proofs.starting.check_fit.Tie as tie
 
-fits-requires : tie.Need-fits-requires
-fits-requires c κs = search needs
-
 returns : tie.Need-returns
 unfolding fitCheck
 returns c = simp (sym (c .before .fits2 .ensures) ∙ c .if1 .taken)
@@ -21,6 +18,4 @@ pub check-fit-spec : {M : Type 1} → statement M
 check-fit-spec =
     tie.close
     (tie.spec
-    fits-requires
-    returns
-    returns-2)
+    (λ c κs. search needs) returns returns-2)

@@ -9,30 +9,6 @@ use Rattle.share_boards.proofs.Starts.{placed-refused, placed-away, pla
 use Rattle.share_boards.proofs.starting.check_placed.Statement.{statement}
 use Rattle.share_boards.proofs.starting.check_placed.Tie as tie
 
-cast-larger : tie.Need-cast-larger
-cast-larger c = search needs
-
-cast-larger-2 : tie.Need-cast-larger-2
-cast-larger-2 c = search needs
-
-larger-requires : tie.Need-larger-requires
-larger-requires c κs = search needs
-
-lacks-requires : tie.Need-lacks-requires
-lacks-requires c κs = search needs
-
-check-pair-requires : tie.Need-check-pair-requires
-check-pair-requires c κs = search needs
-
-enum-known-r : tie.Need-enum-known-r
-enum-known-r c = search needs
-
-enum-told : tie.Need-enum-told
-enum-told c = search needs
-
-cast-check-fit : tie.Need-cast-check-fit
-cast-check-fit c = search needs
-
 check-fit-requires : tie.Need-check-fit-requires
 check-fit-requires c κs =
     let a = c .before .before .before .before .before .before .before .before .before .before .before .before .before .args in
@@ -63,15 +39,5 @@ pub check-placed-spec : {M : Type 1} → statement M
 check-placed-spec =
     tie.close
     (tie.spec
-    cast-larger
-    cast-larger-2
-    larger-requires
-    lacks-requires
-    check-pair-requires
-    enum-known-r
-    enum-told
-    cast-check-fit
-    check-fit-requires
-    returns
-    returns-2
-    returns-3)
+    (λ c. search needs) (λ c. search needs) (λ c κs. search needs) (λ c κs. search needs) (λ c κs. search needs) (λ c. search needs)
+    (λ c. search needs) (λ c. search needs) check-fit-requires returns returns-2 returns-3)

@@ -7,18 +7,6 @@ use Rattle.share_boards.proofs.Starts.{placed-few, saving-refused, savi
 use Rattle.share_boards.proofs.starting.check_save.Statement.{statement}
 use Rattle.share_boards.proofs.starting.check_save.Tie as tie
 
-check-start-requires : tie.Need-check-start-requires
-check-start-requires c κs = search needs
-
-enum-known-r : tie.Need-enum-known-r
-enum-known-r c = search needs
-
-enum-told : tie.Need-enum-told
-enum-told c = search needs
-
-cast-sheet-bytes : tie.Need-cast-sheet-bytes
-cast-sheet-bytes c = search needs
-
 sheet-bytes-requires : tie.Need-sheet-bytes-requires
 sheet-bytes-requires c κs = placed-few _ _ _ _ (sym (c .before .before .before .check-start .ensures) ∙ c .before .enum-told .given .1)
 
@@ -35,11 +23,4 @@ pub check-save-spec : {M : Type 1} → statement M
 check-save-spec =
     tie.close
     (tie.spec
-    check-start-requires
-    enum-known-r
-    enum-told
-    cast-sheet-bytes
-    sheet-bytes-requires
-    returns
-    returns-2
-    returns-3)
+    (λ c κs. search needs) (λ c. search needs) (λ c. search needs) (λ c. search needs) sheet-bytes-requires returns returns-2 returns-3)

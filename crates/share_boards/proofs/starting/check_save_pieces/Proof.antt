@@ -7,18 +7,6 @@ use Rattle.share_boards.proofs.Starts.{placed-board, saving-refused, sa
 use Rattle.share_boards.proofs.starting.check_save_pieces.Statement.{statement}
 use Rattle.share_boards.proofs.starting.check_save_pieces.Tie as tie
 
-check-level-requires : tie.Need-check-level-requires
-check-level-requires c κs = search needs
-
-enum-known-r : tie.Need-enum-known-r
-enum-known-r c = search needs
-
-enum-told : tie.Need-enum-told
-enum-told c = search needs
-
-cast-pieces-bytes : tie.Need-cast-pieces-bytes
-cast-pieces-bytes c = search needs
-
 pieces-bytes-requires : tie.Need-pieces-bytes-requires
 pieces-bytes-requires c κs = placed-board _ _ _ _ (sym (c .before .before .before .check-level .ensures) ∙ c .before .enum-told .given .1)
 
@@ -35,11 +23,4 @@ pub check-save-pieces-spec : {M : Type 1} → statement M
 check-save-pieces-spec =
     tie.close
     (tie.spec
-    check-level-requires
-    enum-known-r
-    enum-told
-    cast-pieces-bytes
-    pieces-bytes-requires
-    returns
-    returns-2
-    returns-3)
+    (λ c κs. search needs) (λ c. search needs) (λ c. search needs) (λ c. search needs) pieces-bytes-requires returns returns-2 returns-3)

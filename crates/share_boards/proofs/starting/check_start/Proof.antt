@@ -5,14 +5,8 @@ use mathlib.Core.Path.{_∙_}
 use Rattle.share_boards.proofs.starting.check_start.Statement.{statement}
 use Rattle.share_boards.proofs.starting.check_start.Tie as tie
 
-both-start-requires : tie.Need-both-start-requires
-both-start-requires c κs = search needs
-
-check-placed-requires : tie.Need-check-placed-requires
-check-placed-requires c κs = search needs
-
 returns : tie.Need-returns
 returns c = c .check-placed .ensures ∙ simp (c .before .both-start .ensures)
 
 pub check-start-spec : {M : Type 1} → statement M
-check-start-spec = tie.close (tie.spec both-start-requires check-placed-requires returns)
+check-start-spec = tie.close (tie.spec (λ c κs. search needs) (λ c κs. search needs) returns)

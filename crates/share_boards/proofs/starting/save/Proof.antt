@@ -7,23 +7,8 @@ use Rattle.share_boards.proofs.Starts.{placed-few, placed-rates, saving
 use Rattle.share_boards.proofs.starting.save.Statement.{statement}
 use Rattle.share_boards.proofs.starting.save.Tie as tie
 
-check-save-requires : tie.Need-check-save-requires
-check-save-requires c κs = search needs
-
-enum-known-r : tie.Need-enum-known-r
-enum-known-r c = search needs
-
-enum-told : tie.Need-enum-told
-enum-told c = search needs
-
-cast-c : tie.Need-cast-c
-cast-c c = search needs
-
 all-zero-requires : tie.Need-all-zero-requires
 all-zero-requires c κs = placed-rates _ _ _ _ (saving-first leafForm _ _ _ _ (sym (c .before .before .before .check-save .ensures) ∙ c .before .enum-told .given .1))
-
-save-requires : tie.Need-save-requires
-save-requires c κs = search needs
 
 sheet-bytes-requires : tie.Need-sheet-bytes-requires
 sheet-bytes-requires c κs = placed-few _ _ _ _ (saving-first leafForm _ _ _ _ (sym (c .before .before .before .before .before .before .before .before .before .check-save .ensures) ∙ c .before .before .before .before .before .before .before .enum-told .given .1))
@@ -32,9 +17,6 @@ returns : tie.Need-returns
 returns c =
     let e = sym (c .before .before .before .check-save .ensures) ∙ c .before .r .given .1 in
     (simp e, simp e, simp e)
-
-same-length : tie.Need-same-length
-same-length c = search needs
 
 returns-2 : tie.Need-returns-2
 returns-2 c =
@@ -54,14 +36,5 @@ pub save-spec : {M : Type 1} → statement M
 save-spec =
     tie.close
     (tie.spec
-    check-save-requires
-    enum-known-r
-    enum-told
-    cast-c
-    all-zero-requires
-    save-requires
-    sheet-bytes-requires
-    returns
-    same-length
-    returns-2
-    returns-3)
+    (λ c κs. search needs) (λ c. search needs) (λ c. search needs) (λ c. search needs) all-zero-requires (λ c κs. search needs)
+    sheet-bytes-requires returns (λ c. search needs) returns-2 returns-3)

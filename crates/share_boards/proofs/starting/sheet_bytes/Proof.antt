@@ -19,6 +19,4 @@ pub sheet-bytes-spec : {M : Type 1} → statement M
 sheet-bytes-spec =
     tie.close
     (tie.spec
-    add-result
-    mul-result
-    returns)
+    add-result mul-result returns)

@@ -11,18 +11,6 @@ use Rattle.shares.proofs.carrying.carry_out.Tie as tie
 remove-settled-requires : tie.Need-remove-settled-requires
 remove-settled-requires c κs = let p = c .before .before .before .before .before .before .before .before .before .before .pre in (ready-change _ _ (p .0) (p .1), p .0 .rates, p .0 .owed, p .0 .other)
 
-same-length : tie.Need-same-length
-same-length c = search needs
-
-same-length-2 : tie.Need-same-length-2
-same-length-2 c = search needs
-
-same-length-3 : tie.Need-same-length-3
-same-length-3 c = search needs
-
-same-length-4 : tie.Need-same-length-4
-same-length-4 c = search needs
-
 returns : tie.Need-returns
 returns c =
     let a = c .before .before .before .before .before .before .before .before .before .before .before .before .before .before .before .before .before .before .before .args in
@@ -34,12 +22,6 @@ returns c =
 admit-over-requires : tie.Need-admit-over-requires
 admit-over-requires c κs = let p = c .before .before .before .before .before .before .before .before .before .before .pre in (ready-change _ _ (p .0) (p .1), p .0 .rates)
 
-same-length-5 : tie.Need-same-length-5
-same-length-5 c = search needs
-
-same-length-6 : tie.Need-same-length-6
-same-length-6 c = search needs
-
 returns-2 : tie.Need-returns-2
 returns-2 c =
     let a = c .before .before .before .before .before .before .before .before .before .before .before .before .before .before .before .args in
@@ -50,9 +32,6 @@ returns-2 c =
 
 carry-out-requires : tie.Need-carry-out-requires
 carry-out-requires c κs = let p = c .before .before .before .before .before .before .before .before .before .pre in ready-change _ _ (p .0) (p .1)
-
-same-length-7 : tie.Need-same-length-7
-same-length-7 c = search needs
 
 returns-3 : tie.Need-returns-3
 returns-3 c =
@@ -67,16 +46,5 @@ pub carry-out-spec : {M : Type 1} → statement M
 carry-out-spec =
     tie.close
     (tie.spec
-    remove-settled-requires
-    same-length
-    same-length-2
-    same-length-3
-    same-length-4
-    returns
-    admit-over-requires
-    same-length-5
-    same-length-6
-    returns-2
-    carry-out-requires
-    same-length-7
-    returns-3)
+    remove-settled-requires (λ c. search needs) (λ c. search needs) (λ c. search needs) (λ c. search needs) returns admit-over-requires
+    (λ c. search needs) (λ c. search needs) returns-2 carry-out-requires (λ c. search needs) returns-3)

@@ -1,33 +1,15 @@
 -- `shares::carrying::remove_settled` meets its contract.
 -- Assumes nothing.
 use native.Mathlib.Omega.{arith}
-use mathlib.Core.Path.{sym, _∙_}
+use mathlib.Core.Path.{sym}
 use Rattle.calls.proofs.Laws.{change-slot, slot-sized}
 use Rattle.shares.proofs.Doings.{refused-not, room-not, remove-not, remove-done}
 use borrow.Author.Needs.{needs}
 use Rattle.shares.proofs.carrying.remove_settled.Statement.{statement}
 use Rattle.shares.proofs.carrying.remove_settled.Tie as tie
 
-cast-c : tie.Need-cast-c
-cast-c c = search needs
-
 remember-requires : tie.Need-remember-requires
 remember-requires c κs = let s = slot-sized _ _ (change-slot _ _ (sym (c .before .before .before .before .before .before .pre .0))) in (s .long, s .few)
-
-remove-by-requires : tie.Need-remove-by-requires
-remove-by-requires c κs = search needs
-
-enum-known-answer : tie.Need-enum-known-answer
-enum-known-answer c = search needs
-
-enum-known-answer-2 : tie.Need-enum-known-answer-2
-enum-known-answer-2 c = search needs
-
-enum-known-answer-3 : tie.Need-enum-known-answer-3
-enum-known-answer-3 c = search needs
-
-slice-aggregate-settle-tables : tie.Need-slice-aggregate-settle-tables
-slice-aggregate-settle-tables c = search needs
 
 settle-tables-requires : tie.Need-settle-tables-requires
 settle-tables-requires c κs =
@@ -35,29 +17,11 @@ settle-tables-requires c κs =
     let s = slot-sized _ _ (change-slot _ _ (sym (p .0))) in
     (omega (arith, s .few), omega (arith, s .long, c .before .before .before .before .before .before .before .before .before .before .remove-by .kept .1 .1 .0), s .few, p .1, p .2, p .3)
 
-same-length : tie.Need-same-length
-same-length c = search needs
-
 returns : tie.Need-returns
 returns c = let a = c .before .before .before .before .before .before .before .before .before .before .before .before .before .before .args in remove-not _ _ (a .rates .now) (a .owed .now) (a .owed-other .now) _ _ _ (c .before .before .before .before .before .remove-by .ensures) _ (c .before .answer .given .1) (refused-not _)
 
-same-length-2 : tie.Need-same-length-2
-same-length-2 c = search needs
-
 returns-2 : tie.Need-returns-2
 returns-2 c = let a = c .before .before .before .before .before .before .before .before .before .before .before .before .before .before .args in remove-not _ _ (a .rates .now) (a .owed .now) (a .owed-other .now) _ _ _ (c .before .before .before .before .before .remove-by .ensures) _ (c .before .answer2 .given .1) (room-not _)
-
-same-length-3 : tie.Need-same-length-3
-same-length-3 c = search needs
-
-same-length-4 : tie.Need-same-length-4
-same-length-4 c = search needs
-
-same-length-5 : tie.Need-same-length-5
-same-length-5 c = search needs
-
-same-length-6 : tie.Need-same-length-6
-same-length-6 c = search needs
 
 returns-3 : tie.Need-returns-3
 returns-3 c =
@@ -69,20 +33,7 @@ pub remove-settled-spec : {M : Type 1} → statement M
 remove-settled-spec =
     tie.close
     (tie.spec
-    cast-c
-    remember-requires
-    remove-by-requires
-    enum-known-answer
-    enum-known-answer-2
-    enum-known-answer-3
-    slice-aggregate-settle-tables
-    settle-tables-requires
-    same-length
-    returns
-    same-length-2
-    returns-2
-    same-length-3
-    same-length-4
-    same-length-5
-    same-length-6
-    returns-3)
+    (λ c. search needs) remember-requires
+    (λ c κs. search needs) (λ c. search needs) (λ c. search needs) (λ c. search needs) (λ c. search needs) settle-tables-requires
+    (λ c. search needs) returns (λ c. search needs) returns-2
+    (λ c. search needs) (λ c. search needs) (λ c. search needs) (λ c. search needs) returns-3)

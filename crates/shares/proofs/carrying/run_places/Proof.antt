@@ -1,8 +1,8 @@
 -- `shares::carrying::run_places` meets its contract.
 -- Assumes nothing.
 use native.Mathlib.Omega.{arith}
-use mathlib.Core.Path.{_≡_, refl, sym, ap, _∙_}
-use Prim.Native.Nat.{_-_, _+_, _≤_}
+use mathlib.Core.Path.{_≡_, refl, sym, _∙_}
+use Prim.Native.Nat.{_-_, _≤_}
 use lib.ListN.{length}
 use Rattle.waiting.proofs.Laws.{stateFrom, listFrom, state-none, list-none}
 use Rattle.shares.specs.States.{lent}
@@ -76,16 +76,5 @@ pub run-places-spec : {M : Type 1} → statement M
 run-places-spec =
     tie.close
     (tie.spec
-    Inv-loop
-    μ-loop
-    loop-holds
-    run-place-requires
-    add-i
-    loop-less
-    loop-again
-    same-length
-    same-length-2
-    same-length-3
-    same-length-4
-    same-length-5
-    returns)
+    Inv-loop μ-loop loop-holds run-place-requires add-i loop-less loop-again same-length same-length-2 same-length-3 same-length-4
+    same-length-5 returns)

@@ -7,23 +7,8 @@ use Rattle.tables.proofs.Entries.{sum-four}
 use Rattle.tables.proofs.fitting.four.Statement.{statement}
 use Rattle.tables.proofs.fitting.four.Tie as tie
 
-mul-result : tie.Need-mul-result
-mul-result c = search needs
-
-shared-slice-read-result : tie.Need-shared-slice-read-result
-shared-slice-read-result c = search needs
-
 cast-result : tie.Need-cast-result
 cast-result c = omega (arith, c .shared-slice-known .given (c .before .args .i))
-
-add-result : tie.Need-add-result
-add-result c = search needs
-
-mul-result-2 : tie.Need-mul-result-2
-mul-result-2 c = search needs
-
-shared-slice-read-result-2 : tie.Need-shared-slice-read-result-2
-shared-slice-read-result-2 c = search needs
 
 cast-result-2 : tie.Need-cast-result-2
 cast-result-2 c = omega (arith, c .shared-slice-known2 .given (c .before .before .args .i + 1))
@@ -31,29 +16,11 @@ cast-result-2 c = omega (arith, c .shared-slice-known2 .given (c .before .before
 add-result-2 : tie.Need-add-result-2
 add-result-2 c = omega (arith, c .before .shared-slice-known .given (c .before .before .args .i), c .shared-slice-known2 .given (c .before .before .args .i + 1))
 
-add-result-3 : tie.Need-add-result-3
-add-result-3 c = search needs
-
-mul-result-3 : tie.Need-mul-result-3
-mul-result-3 c = search needs
-
-shared-slice-read-result-3 : tie.Need-shared-slice-read-result-3
-shared-slice-read-result-3 c = search needs
-
 cast-result-3 : tie.Need-cast-result-3
 cast-result-3 c = omega (arith, c .shared-slice-known3 .given (c .before .before .before .args .i + 2))
 
 add-result-4 : tie.Need-add-result-4
 add-result-4 c = omega (arith, c .before .before .shared-slice-known .given (c .before .before .before .args .i), c .before .shared-slice-known2 .given (c .before .before .before .args .i + 1), c .shared-slice-known3 .given (c .before .before .before .args .i + 2))
-
-add-result-5 : tie.Need-add-result-5
-add-result-5 c = search needs
-
-mul-result-4 : tie.Need-mul-result-4
-mul-result-4 c = search needs
-
-shared-slice-read-result-4 : tie.Need-shared-slice-read-result-4
-shared-slice-read-result-4 c = search needs
 
 cast-result-4 : tie.Need-cast-result-4
 cast-result-4 c = omega (arith, c .shared-slice-known4 .given (c .before .before .before .before .args .i + 3))
@@ -68,22 +35,6 @@ pub four-spec : {M : Type 1} → statement M
 four-spec =
     tie.close
     (tie.spec
-    mul-result
-    shared-slice-read-result
-    cast-result
-    add-result
-    mul-result-2
-    shared-slice-read-result-2
-    cast-result-2
-    add-result-2
-    add-result-3
-    mul-result-3
-    shared-slice-read-result-3
-    cast-result-3
-    add-result-4
-    add-result-5
-    mul-result-4
-    shared-slice-read-result-4
-    cast-result-4
-    add-result-6
-    returns)
+    (λ c. search needs) (λ c. search needs) cast-result (λ c. search needs) (λ c. search needs) (λ c. search needs) cast-result-2
+    add-result-2 (λ c. search needs) (λ c. search needs) (λ c. search needs) cast-result-3 add-result-4
+    (λ c. search needs) (λ c. search needs) (λ c. search needs) cast-result-4 add-result-6 returns)

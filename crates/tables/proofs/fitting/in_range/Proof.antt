@@ -6,9 +6,6 @@ use Rattle.tables.proofs.Holding.{range-told}
 use Rattle.tables.proofs.fitting.in_range.Statement.{statement}
 use Rattle.tables.proofs.fitting.in_range.Tie as tie
 
-one-less-requires : tie.Need-one-less-requires
-one-less-requires c κs = search needs
-
 sub-result : tie.Need-sub-result
 sub-result c = and-le-l _ _
 
@@ -16,4 +13,4 @@ returns : tie.Need-returns
 returns c = rw (c .one-less .ensures) (range-told (c .before .args .r) (c .before .args .v))
 
 pub in-range-spec : {M : Type 1} → statement M
-in-range-spec = tie.close (tie.spec one-less-requires sub-result returns)
+in-range-spec = tie.close (tie.spec (λ c κs. search needs) sub-result returns)

@@ -15,9 +15,6 @@ Inv-loop table c i j₀ j = (j ≤ c) × looking.Skipped c table i j
 abbrev μ-loop : tie.MeasureT-loop
 μ-loop table c i j₀ j = c - j
 
-skip-eights-requires : tie.Need-skip-eights-requires Inv-loop μ-loop
-skip-eights-requires c κs = search needs
-
 loop-holds : tie.Need-loop-holds Inv-loop μ-loop
 loop-holds c = (c .skip-eights .ensures .to, c .skip-eights .ensures)
 
@@ -54,14 +51,4 @@ pub next-entry-spec : {M : Type 1} → statement M
 next-entry-spec =
     tie.close
     (tie.spec
-    Inv-loop
-    μ-loop
-    skip-eights-requires
-    loop-holds
-    mul-if1
-    shared-slice-read-if1
-    returns
-    add-j
-    loop-less
-    loop-again
-    returns-2)
+    Inv-loop μ-loop (λ c κs. search needs) loop-holds mul-if1 shared-slice-read-if1 returns add-j loop-less loop-again returns-2)

@@ -34,9 +34,6 @@ mul-in-range-2 c = omega arith
 shared-slice-read-in-range-2 : tie.Need-shared-slice-read-in-range-2 Inv-loop μ-loop
 shared-slice-read-in-range-2 c = omega arith
 
-in-range-requires : tie.Need-in-range-requires Inv-loop μ-loop
-in-range-requires c κs = search needs
-
 add-n : tie.Need-add-n Inv-loop μ-loop
 add-n c = omega arith
 
@@ -71,17 +68,5 @@ pub owed-fit-spec : {M : Type 1} → statement M
 owed-fit-spec =
     tie.close
     (tie.spec
-    Inv-loop
-    μ-loop
-    loop-holds
-    mul-in-range
-    shared-slice-read-in-range
-    mul-in-range-2
-    shared-slice-read-in-range-2
-    in-range-requires
-    add-n
-    add-i
-    loop-less
-    loop-again
-    cast-result
-    returns)
+    Inv-loop μ-loop loop-holds mul-in-range shared-slice-read-in-range mul-in-range-2 shared-slice-read-in-range-2 (λ c κs. search needs)
+    add-n add-i loop-less loop-again cast-result returns)

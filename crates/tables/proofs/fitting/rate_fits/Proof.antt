@@ -16,9 +16,6 @@ returns-2 : tie.Need-returns-2
 unfolding looking.rateTest
 returns-2 c = simp (ne-eqb _ _ (c .before .if1 .left), eq-eqb _ _ (c .if2 .taken))
 
-held-for-requires : tie.Need-held-for-requires
-held-for-requires c κs = search needs
-
 number-of-requires : tie.Need-number-of-requires
 number-of-requires c κs = (c .before .before .before .before .pre .0, c .before .before .before .before .pre .2)
 
@@ -45,10 +42,4 @@ pub rate-fits-spec : {M : Type 1} → statement M
 rate-fits-spec =
     tie.close
     (tie.spec
-    returns
-    returns-2
-    held-for-requires
-    number-of-requires
-    returns-3
-    rem-result
-    returns-4)
+    returns returns-2 (λ c κs. search needs) number-of-requires returns-3 rem-result returns-4)

@@ -30,9 +30,6 @@ met c =
     c .rate-fits .ensures
     ∙ rate-told (a .args .c) (a .args .board .now) (a .args .rates .now) (a .args .sizes .now) (a .pre .2) (a .pre .4) (L .i) (c .before .before .before .loop-test .taken) (a .pre .5 (getD (a .args .board .now) (L .i) 0) small)
 
-next-entry-requires : tie.Need-next-entry-requires Inv-loop μ-loop
-next-entry-requires c κs = search needs
-
 loop-holds : tie.Need-loop-holds Inv-loop μ-loop
 unfolding sharing.every
 loop-holds c =
@@ -98,20 +95,6 @@ pub rates-fit-spec : {M : Type 1} → statement M
 rates-fit-spec =
     tie.close
     (tie.spec
-    Inv-loop
-    μ-loop
-    next-entry-requires
-    loop-holds
-    mul-rate-fits
-    shared-slice-read-rate-fits
-    cast-rate-fits
-    mul-rate-fits-2
-    shared-slice-read-rate-fits-2
-    cast-rate-fits-2
-    rate-fits-requires
-    returns
-    add-next-entry
-    next-entry-requires-2
-    loop-less
-    loop-again
+    Inv-loop μ-loop (λ c κs. search needs) loop-holds mul-rate-fits shared-slice-read-rate-fits cast-rate-fits mul-rate-fits-2
+    shared-slice-read-rate-fits-2 cast-rate-fits-2 rate-fits-requires returns add-next-entry next-entry-requires-2 loop-less loop-again
     returns-2)

@@ -54,16 +54,4 @@ pub skip-eights-spec : {M : Type 1} → statement M
 skip-eights-spec =
     tie.close
     (tie.spec
-    Inv-loop
-    μ-loop
-    loop-holds
-    add-loop
-    four-requires
-    add-four
-    four-requires-2
-    add-if1
-    returns
-    add-j
-    loop-less
-    loop-again
-    returns-2)
+    Inv-loop μ-loop loop-holds add-loop four-requires add-four four-requires-2 add-if1 returns add-j loop-less loop-again returns-2)

@@ -13,23 +13,11 @@ use Rattle.tables.proofs.Noting.{origins-found}
 use Rattle.tables.proofs.settling.find_origins.Statement.{statement}
 use Rattle.tables.proofs.settling.find_origins.Tie as tie
 
-empty-requires : tie.Need-empty-requires
-empty-requires c κs = search needs
-
-slice-aggregate-mark-leaves : tie.Need-slice-aggregate-mark-leaves
-slice-aggregate-mark-leaves c = search needs
-
 mark-leaves-requires : tie.Need-mark-leaves-requires
 mark-leaves-requires c κs = (omega arith, omega arith, rw (c .before .empty .ensures) (blank-empty 12290 refl))
 
-slice-aggregate-take-marks : tie.Need-slice-aggregate-take-marks
-slice-aggregate-take-marks c = search needs
-
 take-marks-requires : tie.Need-take-marks-requires
 take-marks-requires c κs = (omega arith, omega arith, c .before .before .before .mark-leaves .ensures .table, omega arith)
-
-same-length : tie.Need-same-length
-same-length c = search needs
 
 returns : tie.Need-returns
 returns c =
@@ -43,10 +31,4 @@ pub find-origins-spec : {M : Type 1} → statement M
 find-origins-spec =
     tie.close
     (tie.spec
-    empty-requires
-    slice-aggregate-mark-leaves
-    mark-leaves-requires
-    slice-aggregate-take-marks
-    take-marks-requires
-    same-length
-    returns)
+    (λ c κs. search needs) (λ c. search needs) mark-leaves-requires (λ c. search needs) take-marks-requires (λ c. search needs) returns)

@@ -8,26 +8,11 @@ use Rattle.names.proofs.Laws.{entered-same}
 use Rattle.tables.proofs.settling.mark_leaf.Statement.{statement}
 use Rattle.tables.proofs.settling.mark_leaf.Tie as tie
 
-find-requires : tie.Need-find-requires
-find-requires c κs = search needs
-
-add-enter : tie.Need-add-enter
-add-enter c = search needs
-
-enter-requires : tie.Need-enter-requires
-enter-requires c κs = search needs
-
-same-length : tie.Need-same-length
-same-length c = search needs
-
 returns : tie.Need-returns
 returns c =
     let a = c .before .before .before .before .before .before .before .before .before .args in
     let none : numberOf (a .marks .now) (a .x) ≡ 0 = sym (c .before .before .before .before .before .before .find .ensures .number) ∙ c .before .before .before .before .if1 .taken in
     rw (eq-eqb (numberOf (a .marks .now) (a .x)) 0 none) (c .before .before .enter .ensures)
-
-same-length-2 : tie.Need-same-length-2
-same-length-2 c = search needs
 
 returns-2 : tie.Need-returns-2
 returns-2 c =
@@ -35,4 +20,4 @@ returns-2 c =
     rw (ne-eqb (numberOf (a .args .marks .now) (a .args .x)) 0 (λ z. c .if1 .left (c .before .before .find .ensures .number ∙ z))) (entered-same (a .args .marks .now) (a .pre .2) (a .args .x))
 
 pub mark-leaf-spec : {M : Type 1} → statement M
-mark-leaf-spec = tie.close (tie.spec find-requires add-enter enter-requires same-length returns same-length-2 returns-2)
+mark-leaf-spec = tie.close (tie.spec (λ c κs. search needs) (λ c. search needs) (λ c κs. search needs) (λ c. search needs) returns (λ c. search needs) returns-2)

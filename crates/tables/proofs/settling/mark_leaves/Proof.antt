@@ -65,15 +65,5 @@ pub mark-leaves-spec : {M : Type 1} → statement M
 mark-leaves-spec =
     tie.close
     (tie.spec
-    Inv-loop
-    μ-loop
-    loop-holds
-    mul-mark-leaf
-    shared-slice-read-mark-leaf
-    cast-mark-leaf
-    mark-leaf-requires
-    add-i
-    loop-less
-    loop-again
-    same-length
-    returns)
+    Inv-loop μ-loop loop-holds mul-mark-leaf shared-slice-read-mark-leaf cast-mark-leaf mark-leaf-requires add-i loop-less loop-again
+    same-length returns)

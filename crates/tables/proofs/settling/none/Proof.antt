@@ -5,15 +5,6 @@ use mathlib.Core.Path.{refl, sym, _∙_}
 use Rattle.tables.proofs.settling.none.Statement.{statement}
 use Rattle.tables.proofs.settling.none.Tie as tie
 
-all-zero-requires : tie.Need-all-zero-requires
-all-zero-requires c κs = search needs
-
-all-zero-requires-2 : tie.Need-all-zero-requires-2
-all-zero-requires-2 c κs = search needs
-
-all-zero-requires-3 : tie.Need-all-zero-requires-3
-all-zero-requires-3 c κs = search needs
-
 returns : tie.Need-returns
 returns c = rw (sym (c .before .before .before .before .all-zero .ensures) ∙ c .before .before .before .if1 .taken, sym (c .before .before .all-zero2 .ensures) ∙ c .before .if2 .taken) (c .all-zero3 .ensures)
 
@@ -27,9 +18,4 @@ pub none-spec : {M : Type 1} → statement M
 none-spec =
     tie.close
     (tie.spec
-    all-zero-requires
-    all-zero-requires-2
-    all-zero-requires-3
-    returns
-    returns-2
-    returns-3)
+    (λ c κs. search needs) (λ c κs. search needs) (λ c κs. search needs) returns returns-2 returns-3)

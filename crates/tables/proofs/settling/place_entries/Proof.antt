@@ -48,9 +48,6 @@ loop-less c = omega arith
 loop-again : tie.Need-loop-again Inv-loop μ-loop
 loop-again c = (omega arith, simp length-set (c .before .before .before .loop .inv .1), rw (add-one (c .before .before .before .loop .i)) (written-more _ _ _ _ _ (c .before .before .before .loop .inv .2) (c .fetch-entry .ensures)))
 
-same-length : tie.Need-same-length Inv-loop μ-loop
-same-length c = search needs
-
 returns : tie.Need-returns Inv-loop μ-loop
 returns c = c .before .loop .inv .2 ∙ ap (λ (k : ℕ). settled.written (λ j. looking.fetched (c .before .before .before .before .before .args .old .now) (getD (c .before .before .before .before .before .args .from .now) j 0)) k (c .before .before .before .before .before .args .table .now)) (omega arith)
 
@@ -58,17 +55,5 @@ pub place-entries-spec : {M : Type 1} → statement M
 place-entries-spec =
     tie.close
     (tie.spec
-    Inv-loop
-    μ-loop
-    loop-holds
-    mul-fetch-entry
-    shared-slice-read-fetch-entry
-    cast-fetch-entry
-    fetch-entry-requires
-    mul-table
-    slice-write-table
-    add-i
-    loop-less
-    loop-again
-    same-length
-    returns)
+    Inv-loop μ-loop loop-holds mul-fetch-entry shared-slice-read-fetch-entry cast-fetch-entry fetch-entry-requires mul-table
+    slice-write-table add-i loop-less loop-again (λ c. search needs) returns)

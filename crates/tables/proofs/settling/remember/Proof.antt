@@ -14,15 +14,6 @@ use Rattle.tables.proofs.settling.remember.Tie as tie
 long : (c : tie.After-copy-table) → c .before .before .before .before .args .c ≤ length (c .before .before .no-entries .result)
 long c = search needs
 
-no-entries-requires : tie.Need-no-entries-requires
-no-entries-requires c κs = search needs
-
-slice-aggregate-copy-table : tie.Need-slice-aggregate-copy-table
-slice-aggregate-copy-table c = search needs
-
-copy-table-requires : tie.Need-copy-table-requires
-copy-table-requires c κs = search needs
-
 returns : tie.Need-returns
 returns c =
     let a = c .before .before .before .before .before .args in
@@ -31,4 +22,4 @@ returns c =
 
 pub remember-spec : {M : Type 1} → statement M
 remember-spec =
-    tie.close (tie.spec no-entries-requires slice-aggregate-copy-table copy-table-requires returns)
+    tie.close (tie.spec (λ c κs. search needs) (λ c. search needs) (λ c κs. search needs) returns)

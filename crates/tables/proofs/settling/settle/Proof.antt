@@ -15,36 +15,12 @@ use Rattle.tables.proofs.settling.settle.Tie as tie
 long : (c : tie.After-copy-table) → c .before .before .before .before .before .before .before .before .before .args .c ≤ length (c .before .before .before .no-entries .result)
 long c = search needs
 
-all-zero-requires : tie.Need-all-zero-requires
-all-zero-requires c κs = search needs
-
-same-length : tie.Need-same-length
-same-length c = search needs
-
 returns : tie.Need-returns
 returns c =
     let a = c .before .before .before .before .before in
     let T = a .args .table .now in
     let zeros : (i : ℕ) → i < a .args .c → getD T i 0 ≡ 0 = λ i h. zero-elim T (a .args .c) i (sym (c .before .all-zero .ensures) ∙ c .if1 .taken) h in
     sym (written-own (λ i. looking.fetched T (getD (a .args .from .now) i 0)) T (a .args .c) (λ i h. fetched-zero (a .args .c) (getD (a .args .from .now) i 0) T zeros (a .pre .3 i h) ∙ sym (zeros i h)))
-
-no-entries-requires : tie.Need-no-entries-requires
-no-entries-requires c κs = search needs
-
-slice-aggregate-copy-table : tie.Need-slice-aggregate-copy-table
-slice-aggregate-copy-table c = search needs
-
-copy-table-requires : tie.Need-copy-table-requires
-copy-table-requires c κs = search needs
-
-slice-aggregate-place-entries : tie.Need-slice-aggregate-place-entries
-slice-aggregate-place-entries c = search needs
-
-place-entries-requires : tie.Need-place-entries-requires
-place-entries-requires c κs = search needs
-
-same-length-2 : tie.Need-same-length-2
-same-length-2 c = search needs
 
 returns-2 : tie.Need-returns-2
 returns-2 c =
@@ -59,13 +35,6 @@ pub settle-spec : {M : Type 1} → statement M
 settle-spec =
     tie.close
     (tie.spec
-    all-zero-requires
-    same-length
-    returns
-    no-entries-requires
-    slice-aggregate-copy-table
-    copy-table-requires
-    slice-aggregate-place-entries
-    place-entries-requires
-    same-length-2
+    (λ c κs. search needs) (λ c. search needs) returns
+    (λ c κs. search needs) (λ c. search needs) (λ c κs. search needs) (λ c. search needs) (λ c κs. search needs) (λ c. search needs)
     returns-2)

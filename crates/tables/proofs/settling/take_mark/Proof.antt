@@ -9,16 +9,10 @@ use Rattle.names.proofs.Laws.{number-small, number-none, entered-same}
 use Rattle.tables.proofs.settling.take_mark.Statement.{statement}
 use Rattle.tables.proofs.settling.take_mark.Tie as tie
 
-find-requires : tie.Need-find-requires
-find-requires c κs = search needs
-
 cast-m : tie.Need-cast-m
 cast-m c =
     let a = c .before .before .before .before in
     omega (arith, c .before .find .ensures .number, number-small (a .args .marks .now) (a .pre .1) (a .args .x))
-
-same-length : tie.Need-same-length
-same-length c = search needs
 
 returns : tie.Need-returns
 returns c =
@@ -32,11 +26,8 @@ enter-requires c κs =
     let f = c .before .before .before .find .ensures in
     (a .pre .0, omega arith, a .pre .1, f .place, λ z. absurd (c .before .if1 .left (f .number ∙ number-none (a .args .marks .now) (a .pre .1) (a .args .x) (sym (f .place) ∙ z))))
 
-same-length-2 : tie.Need-same-length-2
-same-length-2 c = search needs
-
 returns-2 : tie.Need-returns-2
 returns-2 c = (c .before .before .before .before .before .before .find .ensures .number, c .before .before .enter .ensures)
 
 pub take-mark-spec : {M : Type 1} → statement M
-take-mark-spec = tie.close (tie.spec find-requires cast-m same-length returns enter-requires same-length-2 returns-2)
+take-mark-spec = tie.close (tie.spec (λ c κs. search needs) cast-m (λ c. search needs) returns enter-requires (λ c. search needs) returns-2)

@@ -89,19 +89,5 @@ pub take-marks-spec : {M : Type 1} → statement M
 take-marks-spec =
     tie.close
     (tie.spec
-    Inv-loop
-    μ-loop
-    take-mark-requires
-    loop-holds
-    mul-take-mark
-    shared-slice-read-take-mark
-    cast-take-mark
-    take-mark-requires-2
-    mul-from
-    slice-write-from
-    add-i
-    loop-less
-    loop-again
-    same-length
-    same-length-2
-    returns)
+    Inv-loop μ-loop take-mark-requires loop-holds mul-take-mark shared-slice-read-take-mark cast-take-mark take-mark-requires-2 mul-from
+    slice-write-from add-i loop-less loop-again same-length same-length-2 returns)

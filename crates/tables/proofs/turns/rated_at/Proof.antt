@@ -5,20 +5,8 @@ use borrow.Author.Tests.{eq-eqb, ne-eqb}
 use Rattle.tables.proofs.turns.rated_at.Statement.{statement}
 use Rattle.tables.proofs.turns.rated_at.Tie as tie
 
-mul-if1 : tie.Need-mul-if1
-mul-if1 c = search needs
-
-shared-slice-read-if1 : tie.Need-shared-slice-read-if1
-shared-slice-read-if1 c = search needs
-
 returns : tie.Need-returns
 returns c = simp (eq-eqb _ _ (c .if1 .taken))
-
-mul-result : tie.Need-mul-result
-mul-result c = search needs
-
-shared-slice-read-result : tie.Need-shared-slice-read-result
-shared-slice-read-result c = search needs
 
 returns-2 : tie.Need-returns-2
 returns-2 c = simp (ne-eqb _ _ (c .before .if1 .left))
@@ -26,4 +14,4 @@ returns-2 c = simp (ne-eqb _ _ (c .before .if1 .left))
 pub rated-at-spec : {M : Type 1} → statement M
 rated-at-spec =
     tie.close
-    (tie.spec mul-if1 shared-slice-read-if1 returns mul-result shared-slice-read-result returns-2)
+    (tie.spec (λ c. search needs) (λ c. search needs) returns (λ c. search needs) (λ c. search needs) returns-2)

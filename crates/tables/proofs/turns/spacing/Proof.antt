@@ -39,18 +39,6 @@ some c =
     rw (round-serves (a .args .c) (a .args .board .now) (a .args .rates .now) (s .few) (a .pre .0 .some) (s .fit) (a .args .name) named (a .pre .3))
     (served-some (a .args .c) (a .args .board .now) (a .args .rates .now) (s .few) (a .pre .0 .some) (s .fit) (a .args .name) named (a .pre .3))
 
-no-entries-requires : tie.Need-no-entries-requires
-no-entries-requires c κs = search needs
-
-slice-aggregate-write-round : tie.Need-slice-aggregate-write-round
-slice-aggregate-write-round c = search needs
-
-write-round-requires : tie.Need-write-round-requires
-write-round-requires c κs = search needs
-
-slice-aggregate-spacing-of : tie.Need-slice-aggregate-spacing-of
-slice-aggregate-spacing-of c = search needs
-
 spacing-of-requires : tie.Need-spacing-of-requires
 spacing-of-requires c κs =
     let w = c .before .before in
@@ -64,9 +52,4 @@ pub spacing-spec : {M : Type 1} → statement M
 spacing-spec =
     tie.close
     (tie.spec
-    no-entries-requires
-    slice-aggregate-write-round
-    write-round-requires
-    slice-aggregate-spacing-of
-    spacing-of-requires
-    returns)
+    (λ c κs. search needs) (λ c. search needs) (λ c κs. search needs) (λ c. search needs) spacing-of-requires returns)

@@ -25,9 +25,6 @@ within c =
     let a = c .before .before .before in
     taken-within (a .args .name) (a .args .names .now) (c .loop .i) (c .loop .seen) (c .loop .inv .1) (omega (arith, c .loop .inv .0, a .pre .0))
 
-none-requires : tie.Need-none-requires Inv-loop μ-loop
-none-requires c κs = search needs
-
 loop-holds : tie.Need-loop-holds Inv-loop μ-loop
 unfolding slotsOf
 loop-holds c = (omega arith, c .none .ensures)
@@ -73,15 +70,5 @@ pub spacing-of-spec : {M : Type 1} → statement M
 spacing-of-spec =
     tie.close
     (tie.spec
-    Inv-loop
-    μ-loop
-    none-requires
-    loop-holds
-    mul-if1
-    shared-slice-read-if1
-    served-at-requires
-    add-i
-    loop-less
-    loop-again
-    around-requires
-    returns)
+    Inv-loop μ-loop (λ c κs. search needs) loop-holds mul-if1 shared-slice-read-if1 served-at-requires add-i loop-less loop-again
+    around-requires returns)

@@ -16,24 +16,12 @@ held c =
     let a = c .before .before .before .before .before .before .before in
     omega (arith, c .held-for .ensures, held-above (getD (a .args .rates .now) (a .args .l) 0), a .pre .3)
 
-mul-r : tie.Need-mul-r
-mul-r c = search needs
-
-shared-slice-read-r : tie.Need-shared-slice-read-r
-shared-slice-read-r c = search needs
-
 cast-r : tie.Need-cast-r
 cast-r c = omega (arith, c .shared-slice-known2 .given (c .before .before .before .args .l))
 
 returns : tie.Need-returns
 unfolding turning.turnName turning.turnOwed
 returns c = (simp (eq-eqb _ _ (c .if1 .taken)), simp (eq-eqb _ _ (c .if1 .taken)))
-
-mul-v : tie.Need-mul-v
-mul-v c = search needs
-
-slice-read-v : tie.Need-slice-read-v
-slice-read-v c = search needs
 
 cast-v : tie.Need-cast-v
 cast-v c = omega (arith, c .slice-known2 .given (c .before .before .before .before .before .args .l))
@@ -50,15 +38,6 @@ add-owed c = let h = held c in omega arith
 cast-owed : tie.Need-cast-owed
 cast-owed c = let h = held c in omega arith
 
-mul-owed : tie.Need-mul-owed
-mul-owed c = search needs
-
-slice-write-owed : tie.Need-slice-write-owed
-slice-write-owed c = search needs
-
-same-length : tie.Need-same-length
-same-length c = search needs
-
 returns-2 : tie.Need-returns-2
 unfolding turning.turnName turning.turnOwed turning.owedNext
 returns-2 c =
@@ -68,15 +47,6 @@ returns-2 c =
 
 cast-owed-2 : tie.Need-cast-owed-2
 cast-owed-2 c = omega (arith, c .before .slice-known2 .given (c .before .before .before .before .before .before .args .l))
-
-mul-owed-2 : tie.Need-mul-owed-2
-mul-owed-2 c = search needs
-
-slice-write-owed-2 : tie.Need-slice-write-owed-2
-slice-write-owed-2 c = search needs
-
-same-length-2 : tie.Need-same-length-2
-same-length-2 c = search needs
 
 returns-3 : tie.Need-returns-3
 unfolding turning.turnName turning.turnOwed turning.owedNext
@@ -89,23 +59,6 @@ pub take-turn-spec : {M : Type 1} → statement M
 take-turn-spec =
     tie.close
     (tie.spec
-    mul-r
-    shared-slice-read-r
-    cast-r
-    returns
-    mul-v
-    slice-read-v
-    cast-v
-    held-for-requires
-    sub-owed
-    add-owed
-    cast-owed
-    mul-owed
-    slice-write-owed
-    same-length
-    returns-2
-    cast-owed-2
-    mul-owed-2
-    slice-write-owed-2
-    same-length-2
-    returns-3)
+    (λ c. search needs) (λ c. search needs) cast-r returns (λ c. search needs) (λ c. search needs) cast-v held-for-requires sub-owed
+    add-owed cast-owed (λ c. search needs) (λ c. search needs) (λ c. search needs) returns-2 cast-owed-2
+    (λ c. search needs) (λ c. search needs) (λ c. search needs) returns-3)

@@ -6,22 +6,10 @@ use Rattle.tables.proofs.Turning.{decided-name, decided-owed, decided-r
 use Rattle.tables.proofs.turns.turn_at.Statement.{statement}
 use Rattle.tables.proofs.turns.turn_at.Tie as tie
 
-turn-leaf-requires : tie.Need-turn-leaf-requires
-turn-leaf-requires c κs = search needs
-
-mul-take-turn : tie.Need-mul-take-turn
-mul-take-turn c = search needs
-
-shared-slice-read-take-turn : tie.Need-shared-slice-read-take-turn
-shared-slice-read-take-turn c = search needs
-
 take-turn-requires : tie.Need-take-turn-requires
 take-turn-requires c κs =
     let a = c .before .before .before .before .before .before in
     decided-ready (a .args .c) (a .args .board .now) (a .args .rates .now) (a .args .a) _ (c .before .before .turn-leaf .ensures) _ (a .pre .2) (a .pre .1)
-
-same-length : tie.Need-same-length
-same-length c = search needs
 
 returns : tie.Need-returns
 returns c =
@@ -34,9 +22,4 @@ pub turn-at-spec : {M : Type 1} → statement M
 turn-at-spec =
     tie.close
     (tie.spec
-    turn-leaf-requires
-    mul-take-turn
-    shared-slice-read-take-turn
-    take-turn-requires
-    same-length
-    returns)
+    (λ c κs. search needs) (λ c. search needs) (λ c. search needs) take-turn-requires (λ c. search needs) returns)

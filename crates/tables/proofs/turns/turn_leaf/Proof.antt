@@ -61,16 +61,4 @@ pub turn-leaf-spec : {M : Type 1} → statement M
 turn-leaf-spec =
     tie.close
     (tie.spec
-    Inv-loop
-    μ-loop
-    mul-x
-    shared-slice-read-x
-    loop-holds
-    shr-l
-    shl-l
-    rated-at-requires
-    returns
-    add-m
-    loop-less
-    loop-again
-    returns-2)
+    Inv-loop μ-loop mul-x shared-slice-read-x loop-holds shr-l shl-l rated-at-requires returns add-m loop-less loop-again returns-2)

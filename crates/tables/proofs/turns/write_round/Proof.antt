@@ -9,18 +9,6 @@ use Rattle.tables.proofs.Turning.{round-zeros}
 use Rattle.tables.proofs.turns.write_round.Statement.{statement}
 use Rattle.tables.proofs.turns.write_round.Tie as tie
 
-no-entries-requires : tie.Need-no-entries-requires
-no-entries-requires c κs = search needs
-
-slice-aggregate-write-turns : tie.Need-slice-aggregate-write-turns
-slice-aggregate-write-turns c = search needs
-
-write-turns-requires : tie.Need-write-turns-requires
-write-turns-requires c κs = search needs
-
-same-length : tie.Need-same-length
-same-length c = search needs
-
 returns : tie.Need-returns
 returns c =
     let a = c .before .before .before .before .before .before .before .before .before .before in
@@ -31,8 +19,4 @@ pub write-round-spec : {M : Type 1} → statement M
 write-round-spec =
     tie.close
     (tie.spec
-    no-entries-requires
-    slice-aggregate-write-turns
-    write-turns-requires
-    same-length
-    returns)
+    (λ c κs. search needs) (λ c. search needs) (λ c κs. search needs) (λ c. search needs) returns)

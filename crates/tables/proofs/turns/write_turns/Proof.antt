@@ -73,12 +73,6 @@ loop-again c =
       owed-next (a .c) (a .board .now) (a .rates .now) (a .deficits .now) (a .output .now) (L .i) _ (L .deficits) (L .inv .5) leaf _ (c .before .before .turn-at .ensures .1),
     )
 
-same-length : tie.Need-same-length Inv-loop μ-loop
-same-length c = search needs
-
-same-length-2 : tie.Need-same-length-2 Inv-loop μ-loop
-same-length-2 c = search needs
-
 returns : tie.Need-returns Inv-loop μ-loop
 returns c =
     let a = c .before .before .before .before .before .before .args in
@@ -89,16 +83,5 @@ pub write-turns-spec : {M : Type 1} → statement M
 write-turns-spec =
     tie.close
     (tie.spec
-    Inv-loop
-    μ-loop
-    loop-holds
-    pick-requires
-    turn-at-requires
-    mul-output
-    slice-write-output
-    add-i
-    loop-less
-    loop-again
-    same-length
-    same-length-2
-    returns)
+    Inv-loop μ-loop loop-holds pick-requires turn-at-requires mul-output slice-write-output add-i loop-less loop-again
+    (λ c. search needs) (λ c. search needs) returns)

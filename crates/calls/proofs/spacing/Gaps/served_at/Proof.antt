@@ -4,12 +4,6 @@ use borrow.Author.Needs.{needs}
 use Rattle.calls.proofs.spacing.Gaps.served_at.Statement.{statement}
 use Rattle.calls.proofs.spacing.Gaps.served_at.Tie as tie
 
-sub-larger : tie.Need-sub-larger
-sub-larger c = search needs
-
-larger-requires : tie.Need-larger-requires
-larger-requires c κs = search needs
-
 returns : tie.Need-returns
 returns c = rw (c .before .before .if1 .taken) (cc)
 
@@ -17,4 +11,4 @@ returns-2 : tie.Need-returns-2
 returns-2 c = rw (c .if1 .left) (cc)
 
 pub served-at-spec : {M : Type 1} → statement M
-served-at-spec = tie.close (tie.spec sub-larger larger-requires returns returns-2)
+served-at-spec = tie.close (tie.spec (λ c. search needs) (λ c κs. search needs) returns returns-2)

@@ -5,12 +5,9 @@ use Rattle.lines.specs.Printing.{blank}
 use Rattle.lines.proofs.hearing.Session.new.Statement.{statement}
 use Rattle.lines.proofs.hearing.Session.new.Tie as tie
 
-new-requires : tie.Need-new-requires
-new-requires c κs = search needs
-
 returns : tie.Need-returns
 unfolding blank
 returns c = rw (c .new .ensures) refl
 
 pub new-spec : {M : Type 1} → statement M
-new-spec = tie.close (tie.spec new-requires returns)
+new-spec = tie.close (tie.spec (λ c κs. search needs) returns)

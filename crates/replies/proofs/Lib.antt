@@ -1,0 +1,2 @@
+-- The law that the exported functions cite stands in Laws.
+pub mod Laws
