@@ -1,11 +1,11 @@
 -- Parts heard one after the other: a feed hears bytes, and two hearings are one. Assumes nothing.
-use mathlib.Core.Path.{_≡_, refl, ap, _∙_}
+use mathlib.Core.Path.{refl, ap, _∙_}
 use mathlib.Core.List.{List, [], _++_}
 use Prim.Native.Nat.{ℕ}
 use lib.ListN.{length, take}
 use Rattle.lines.specs.declared.hearing.Session.{Session}
 use Rattle.lines.specs.declared.hearing.Fed.{Fed}
-use Rattle.lines.specs.Sessions.{Talk, started, begun, talked, fedBy, Answered}
+use Rattle.lines.specs.Sessions.{Talk, started, begun, talked, Answered}
 use Rattle.lines.specs.Console.{heardAll}
 use Rattle.lines.proofs.Laws.{fed-part, left-parts}
 use Rattle.desk.specs.Serving.{Follows, Served}

@@ -1,2 +1,3 @@
 -- Nothing above this crate cites a law of it.
+mod Errors
 mod Hearing

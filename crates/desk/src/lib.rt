@@ -1,8 +1,9 @@
 // The console's loop: standard input is read in large blocks, heard, and what is said is written in large blocks, before
 // more input is waited for. What is heard and said is the promises of `lines`; no contract can say what is read or
 // written, but whatever it is, the board and the waiting list are as a session over some input leaves them.
+mod system;
+
 use libc::STDIN_FILENO;
-use libc::STDOUT_FILENO;
 use lines::Session;
 ghost use mathlib.Core.Path.{_≡_};
 ghost use lib.ListN.{length};
@@ -38,7 +39,7 @@ fn hear_block(
         s = fed.session;
         let to = fed.to;
         let used = fed.used;
-        if !io::write_all(STDOUT_FILENO, &out[..to]) {
+        if !system::say(&out[..to]) {
             return Turn {
                 session: s,
                 goes_on: false,
@@ -64,7 +65,7 @@ fn hear_end(session: Session, board: &mut [u16], list: &mut [u64], out: &mut [u8
 {
     let fed = lines::finish(session, board, list, out);
     let to = fed.to;
-    io::write_all(STDOUT_FILENO, &out[..to]);
+    system::say(&out[..to]);
     let session = fed.session;
     Turn {
         session,
@@ -72,7 +73,7 @@ fn hear_end(session: Session, board: &mut [u16], list: &mut [u64], out: &mut [u8
     }
 }
 
-// Reads once, and answers what came.
+// Reads once, and answers what came. Where the read fails nothing is heard: a line that is cut there is no line.
 fn take_turn(
     session: Session,
     input: &mut [u8],
@@ -83,6 +84,10 @@ fn take_turn(
     ensures { λ r. ⌜ Follows session (now (board .entry)) (now (list .entry)) (r .session) (now (board .exit)) (now (list .exit)) ⌝ }
 {
     let got = libc::read(STDIN_FILENO, input);
+    if got < 0 {
+        let goes_on = system::is_read_again();
+        return Turn { session, goes_on };
+    }
     let n = io::count(got, input);
     if n == 0 {
         return hear_end(session, board, list, out);

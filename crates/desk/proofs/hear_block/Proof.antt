@@ -29,14 +29,14 @@ part-feed-end c = omega arith
 feed-requires : tie.Need-feed-requires Inv-loop μ-loop
 feed-requires c κs = tt
 
-slice-reshare-prefix-write-all : tie.Need-slice-reshare-prefix-write-all Inv-loop μ-loop
-slice-reshare-prefix-write-all c = c .before .before .before .before .before .before .before .feed .ensures .counts .0
+slice-reshare-prefix-say : tie.Need-slice-reshare-prefix-say Inv-loop μ-loop
+slice-reshare-prefix-say c = c .before .before .before .before .before .before .before .feed .ensures .counts .0
 
-slice-aggregate-write-all : tie.Need-slice-aggregate-write-all Inv-loop μ-loop
-slice-aggregate-write-all c = c .before .before .before .before .before .before .before .before .feed .ensures .counts .1
+slice-aggregate-say : tie.Need-slice-aggregate-say Inv-loop μ-loop
+slice-aggregate-say c = c .before .before .before .before .before .before .before .before .feed .ensures .counts .1
 
-write-all-requires : tie.Need-write-all-requires Inv-loop μ-loop
-write-all-requires c κs = tt
+say-requires : tie.Need-say-requires Inv-loop μ-loop
+say-requires c κs = tt
 
 same-length : tie.Need-same-length Inv-loop μ-loop
 same-length c = omega (arith, c .before .before .before .before .before .before .before .before .before .before .feed .kept .1 .1 .0, c .before .before .before .before .before .before .before .before .before .before .feed .kept .1 .1 .1 .0, c .before .before .before .before .before .before .before .before .before .before .feed .kept .1 .1 .1 .1 .0)
@@ -87,28 +87,6 @@ pub hear-block-spec : {M : Type 1} → statement M
 hear-block-spec =
     tie.close
     (tie.spec
-    Inv-loop
-    μ-loop
-    loop-holds
-    sub-feed
-    part-feed-start
-    part-feed-end
-    feed-requires
-    slice-reshare-prefix-write-all
-    slice-aggregate-write-all
-    write-all-requires
-    same-length
-    same-length-2
-    same-length-3
-    returns
-    same-length-4
-    same-length-5
-    same-length-6
-    returns-2
-    add-at
-    loop-less
-    loop-again
-    same-length-7
-    same-length-8
-    same-length-9
-    returns-3)
+    Inv-loop μ-loop loop-holds sub-feed part-feed-start part-feed-end feed-requires slice-reshare-prefix-say slice-aggregate-say
+    say-requires same-length same-length-2 same-length-3 returns same-length-4 same-length-5 same-length-6 returns-2 add-at loop-less
+    loop-again same-length-7 same-length-8 same-length-9 returns-3)

@@ -66,21 +66,5 @@ pub talk-spec : {M : Type 1} → statement M
 talk-spec =
     tie.close
     (tie.spec
-    Inv-loop
-    μ-loop
-    new-requires
-    loop-holds
-    take-turn-requires
-    same-length
-    same-length-2
-    same-length-3
-    same-length-4
-    returns
-    sub-turns
-    loop-less
-    loop-again
-    same-length-5
-    same-length-6
-    same-length-7
-    same-length-8
-    returns-2)
+    Inv-loop μ-loop new-requires loop-holds take-turn-requires same-length same-length-2 same-length-3 same-length-4 returns sub-turns
+    loop-less loop-again same-length-5 same-length-6 same-length-7 same-length-8 returns-2)
