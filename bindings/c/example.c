@@ -1,16 +1,10 @@
-/* Opens a board, admits two streams, serves a round slot by slot while a change waits, and again by the tree walk, fetches the answer, saves the board and reads it back.
- * It prints what it does, and ends with status 1 at the first answer that is not the one expected. */
+/* Opens a board, admits two streams, serves a round slot by slot while a change waits, and again by the tree walk, fetches the answer, saves the
+ * board and reads it back. It prints what it does, and ends with status 1 at the first answer that is not the one expected. */
 #include <inttypes.h>
 #include <stdio.h>
 #include <string.h>
 
 #include "mandrozsi.h"
-
-_Static_assert(sizeof(mandrozsi_drive) == 16 && offsetof(mandrozsi_drive, position) == 2 && offsetof(mandrozsi_drive, round) == 8,
-               "the record is two 16-bit numbers and one of 64 bits");
-_Static_assert(sizeof(mandrozsi_said) == 40 && offsetof(mandrozsi_said, fourth) == 32, "what is said is five 64-bit numbers");
-_Static_assert(sizeof(mandrozsi_entry) == 16 && offsetof(mandrozsi_entry, value) == 8, "an entry is four 16-bit numbers and one of 64 bits");
-_Static_assert(sizeof(mandrozsi_reply) == 56 && offsetof(mandrozsi_reply, said) == 16, "a reply is the record, and what is said");
 
 static int wrong(const char *what, mandrozsi_reply got)
 {
@@ -24,7 +18,7 @@ int main(void)
 {
     uint16_t board[8], again[8], names[8];
     uint64_t list[MANDROZSI_LIST] = {0}, other_list[MANDROZSI_LIST] = {0};
-    uint8_t sheet[MANDROZSI_BLOCK_BYTES];
+    uint8_t sheet[MANDROZSI_SHEET_BYTES(8)];
     static const uint16_t expected[8] = {7, 7, 7, 2, 7, 2, 7, 2};
 
     mandrozsi_reply r = mandrozsi_open(8, board, 8, list, MANDROZSI_LIST);

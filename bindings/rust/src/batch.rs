@@ -20,11 +20,13 @@ use crate::{change_of, raw, Change, Drive, Refusal};
 pub struct Entry {
     /// 1: add; 2: remove; 3, where tables are lent: over-allocated add. Any other is answered 7.
     pub kind: u16,
+    /// The stream's name.
     pub name: u16,
     /// Of an add; a remove looks at none.
     pub weight: u16,
-    /// The answer's number, and the value that goes with it: idle leaves, a ticket, or 0.
+    /// The answer's number.
     pub number: u16,
+    /// The value that goes with it: idle leaves, a ticket, or 0.
     pub value: u64,
 }
 

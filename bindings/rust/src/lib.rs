@@ -2,7 +2,10 @@
 //!
 //! The functions stand in a static library whose every promise is proved; this crate gives them Rust's types. A board is a slice of 16-bit
 //! numbers that the caller keeps: a slice is passed as it is, and nothing is copied. Every call accepts every input; a refused one changes
-//! neither the record nor a lent slice.
+//! neither the record nor a lent slice. The crate needs no operating system and no heap.
+//!
+//! [`Drive`], [`Pair`] and [`Shares`] are records alone, and each call is lent the board that its record belongs to. [`OwnedDrive`], [`OwnedPair`] and
+//! [`OwnedShares`] keep record, board, list and tables together, so that none can be taken for another's; their methods have the calls' names.
 //!
 //! An add or a remove is made at once where a round starts and no order waits. At any other position it goes on a waiting list, a slice of 64-bit
 //! numbers that the caller keeps beside the board, and the slot call that starts the next round carries it out; its answer is fetched by a ticket.
@@ -24,37 +27,52 @@
 //! assert_eq!(fetch(&mut list, 1), Fetched::Done { idle: 8 });
 //! # Ok::<(), Refusal>(())
 //! ```
-use std::fmt;
+#![no_std]
+#![deny(missing_docs)]
+
+use core::fmt;
 
 mod batch;
 mod convert;
 mod groups;
+mod owned;
+mod owned_pair;
+mod owned_shares;
 mod pair;
 pub mod raw;
 mod shares;
+mod shown;
 mod tree;
 
 pub use batch::Entry;
 pub use convert::{to_leaves, to_pieces};
 pub use groups::import;
+pub use owned::OwnedDrive;
+pub use owned_pair::OwnedPair;
+pub use owned_shares::OwnedShares;
 pub use pair::{Pair, Side};
 pub use shares::{Shares, Tables};
+pub use shown::Shown;
 pub use tree::{walk, Walked};
 
 use raw::{Reply, Said};
 
-/// The drive record: the capacity C; the position p of the next slot, 1 to 2^k - 1, where C has k binary digits; and the number of the round
-/// that slot belongs to, 0 at open and read, one more each time p returns to 1, and 0 again after the largest. A round starts at p = 1.
+/// The drive record, which open, read, read_pieces and [`import`] give back and which slot alone moves on. A round starts at p = 1.
 #[repr(C)]
 #[derive(Clone, Copy, Debug, Default, PartialEq, Eq, Hash)]
 pub struct Drive {
+    /// The capacity C: the leaves of the board, and the slots of a round.
     pub capacity: u16,
+    /// The position p of the next slot, 1 to 2^k - 1, where C has k binary digits: 1 after open, read and import, and the sheet's after read_pieces.
     pub position: u16,
+    /// The number of the round that the next slot belongs to: 0 after open, read, read_pieces and import, one more each time p returns to 1, and 0
+    /// again after the largest.
     pub round: u64,
 }
 
-/// Why a call is refused. `number` is what document 01 and the C header call it.
+/// Why a call is refused. `number` is what document 01 and the C header call it. Later calls may have refusals that are not here yet.
 #[derive(Clone, Copy, Debug, PartialEq, Eq, Hash, PartialOrd, Ord)]
+#[non_exhaustive]
 pub enum Refusal {
     /// C is 0 or above 4,095.
     Capacity,
@@ -62,22 +80,26 @@ pub enum Refusal {
     Short,
     /// p is 0 or above 2^k - 1; of two drives also: their capacities differ.
     Position,
-    /// p is not 1: a board is saved by its leaves, or laid out afresh, only at the start of a round, of two drives that of both; by its pieces two
-    /// drives save it only where both are at one position.
+    /// p is not 1: a board is saved by its leaves, or laid out afresh, only at the start of a round, of two drives that of both, and
+    /// [`to_leaves`] takes a sheet that lists pieces only where its position is 1. By its pieces two drives save a board only where both are at one
+    /// position.
     Midround,
     /// The board is not good: two pieces of one name, or two idle ones, have equal size; or the tables of over-allocated streams do not fit it.
     Damaged,
     /// The name is 0.
     Name,
-    /// The weight is 0.
+    /// The weight is 0; or a table of changes, or the list, asks for a kind of change that there is none of.
     Weight,
     /// A leaf holds the name.
     Taken,
     /// No leaf holds the name.
     Absent,
-    /// The weight exceeds the number of idle leaves, which is what could be asked for.
-    Room { idle: u16 },
-    /// The lent output is too short.
+    /// The weight exceeds the number of idle leaves; of an over-allocated stream: the leaves R that it needs.
+    Room {
+        /// The idle leaves, which are what could be asked for.
+        idle: u16,
+    },
+    /// The lent output is too short: fewer than C entries of a round, or fewer bytes than the sheet has.
     Output,
     /// A sheet breaks its layout.
     Block,
@@ -95,7 +117,7 @@ pub enum Refusal {
 
 impl Refusal {
     /// Every refusal, in the order of the numbers; `Room` on a full board.
-    pub const ALL: [Refusal; 17] = [
+    pub const ALL: &'static [Refusal] = &[
         Refusal::Capacity,
         Refusal::Short,
         Refusal::Position,
@@ -164,10 +186,10 @@ impl fmt::Display for Refusal {
                 "the board or a table has fewer entries than the capacity, or the list or the marks are too few"
             ),
             Refusal::Position => write!(f, "the position is out of range"),
-            Refusal::Midround => write!(f, "not at the start of a round"),
+            Refusal::Midround => write!(f, "not at the start of a round, or two drives not at one position"),
             Refusal::Damaged => write!(f, "the board is not good"),
             Refusal::Name => write!(f, "the name is 0"),
-            Refusal::Weight => write!(f, "the weight is 0"),
+            Refusal::Weight => write!(f, "the weight is 0, or there is no such kind of change"),
             Refusal::Taken => write!(f, "a leaf holds the name"),
             Refusal::Absent => write!(f, "no leaf holds the name"),
             Refusal::Room { idle } => write!(f, "the weight exceeds the idle leaves, which are {idle}"),
@@ -183,30 +205,45 @@ impl fmt::Display for Refusal {
     }
 }
 
-impl std::error::Error for Refusal {}
+impl core::error::Error for Refusal {}
 
 /// The numbers of a waiting list: a lent slice has as many or more, and what is beyond them is never changed. As many zeros are an empty list.
 pub const LIST: usize = 259;
 
-/// What an add or a remove came to: made at once, with the idle leaves left, or waiting under a ticket.
+/// What an add or a remove came to.
 #[derive(Clone, Copy, Debug, PartialEq, Eq)]
 pub enum Change {
-    Done { idle: u16 },
-    Waiting { ticket: u64 },
-}
-
-/// What a fetch found: the order was done, with the idle leaves left then, or refused when it was carried out; it still waits; or no such ticket.
-#[derive(Clone, Copy, Debug, PartialEq, Eq)]
-pub enum Fetched {
+    /// It was made at once.
     Done {
+        /// The idle leaves left.
         idle: u16,
     },
+    /// Its order waits for the start of a round.
+    Waiting {
+        /// What its answer is fetched by.
+        ticket: u64,
+    },
+}
+
+/// What a fetch found.
+#[derive(Clone, Copy, Debug, PartialEq, Eq)]
+pub enum Fetched {
+    /// The order was carried out.
+    Done {
+        /// The idle leaves left then.
+        idle: u16,
+    },
+    /// The order was refused when it was carried out.
     Refused(Refusal),
+    /// The order still waits.
     Waiting,
+    /// No order and no answer has the ticket; a list that is too short has none.
     Unknown,
     /// An answer that no call leaves: the list was written by something else.
     Foreign {
+        /// Its number.
         number: u64,
+        /// The value that goes with it.
         value: u64,
     },
 }
@@ -225,21 +262,28 @@ pub fn fetch(list: &mut [u64], ticket: u64) -> Fetched {
     }
 }
 
-/// One slot: the stream served (0: none), the leaf it was found at, the terms of the sequence passed over, 0 or 1, and the number of its round.
+/// One slot.
 #[derive(Clone, Copy, Debug, PartialEq, Eq)]
 pub struct Slot {
+    /// The stream served; 0: none.
     pub name: u16,
+    /// The leaf it was found at.
     pub leaf: u16,
+    /// The terms of the sequence passed over, 0 or 1.
     pub passed: u16,
+    /// The number of its round.
     pub round: u64,
 }
 
-/// A report: a stream's weight, its number of pieces, and its spacing, the largest number of slots from one serve to the next over two rounds of
-/// the board, the end of the round included. A stream that is served once a round has spacing C.
+/// A report on a stream.
 #[derive(Clone, Copy, Debug, PartialEq, Eq)]
 pub struct Stream {
+    /// Its slots in a round; of an over-allocated stream r.
     pub weight: u16,
+    /// The number of its pieces.
     pub pieces: u16,
+    /// The largest number of slots from one serve to the next over two rounds of the board, the end of the round included. A stream that is served
+    /// once a round has spacing C.
     pub spacing: u16,
 }
 
@@ -297,6 +341,13 @@ fn reported(reply: Reply) -> Result<Stream, Refusal> {
 }
 
 impl Drive {
+    /// The record of a drive that has no board.
+    const NONE: Drive = Drive {
+        capacity: 0,
+        position: 0,
+        round: 0,
+    };
+
     /// The largest capacity.
     pub const LARGEST: usize = 4095;
     /// The bytes of a sheet's block.
@@ -389,5 +440,21 @@ impl Drive {
     /// The bytes of the sheet of a board of this capacity.
     pub const fn sheet_bytes(self) -> usize {
         (self.capacity as usize).div_ceil(Drive::LEAVES_PER_BLOCK) * Drive::BLOCK_BYTES
+    }
+
+    /// The board as text for a person: its trees, its pieces with their starts and names, what is idle and the position, a short line for each. Any
+    /// board will do, good or not.
+    ///
+    /// ```no_run
+    /// use mandrozsi::{Drive, Refusal, LIST};
+    ///
+    /// let (mut board, mut list) = ([0u16; 8], [0u64; LIST]);
+    /// let drive = Drive::open(8, &mut board, &mut list)?;
+    /// drive.add(&mut board, &mut list, 7, 5)?;
+    /// println!("{}", drive.show(&board));
+    /// # Ok::<(), Refusal>(())
+    /// ```
+    pub fn show(self, board: &[u16]) -> Shown<'_> {
+        Shown::one(self, board)
     }
 }

@@ -1,16 +1,19 @@
 //! Two drives that share a board and a waiting list.
-use crate::{batch, changed, raw, reported, served, Change, Drive, Entry, Refusal, Slot, Stream};
+use crate::{batch, changed, raw, reported, served, Change, Drive, Entry, Refusal, Shown, Slot, Stream};
 
 /// The drive that a call is for.
 #[derive(Clone, Copy, Debug, PartialEq, Eq, Hash)]
 pub enum Side {
+    /// The first of the two.
     First,
+    /// The second.
     Second,
 }
 
 /// The records of two drives on one board, each as its last call left it. Each call is that of [`Drive`], with these differences: a change is made at
 /// once only where both drives are at the start of a round and no order waits, and the orders that wait are carried out by the slot, of either drive,
-/// that finds both there; 1 and 3 are for either record, 2 goes by the larger C, and unequal capacities are 3.
+/// that finds both there; 1 and 3 are for either record, 2 goes by the larger C, and unequal capacities are 3. A board that [`import`](crate::import)
+/// opened is theirs with its record in both places.
 ///
 /// Drives that run out of step may never both be at the start of a round. Then the orders wait on, and once 64 places are taken a change is refused with
 /// [`Refusal::Queue`]: hold the drive that is first there back until the other is there too.
@@ -30,21 +33,23 @@ pub enum Side {
 /// ```
 #[derive(Clone, Copy, Debug, PartialEq, Eq)]
 pub struct Pair {
+    /// The record of the first drive.
     pub first: Drive,
+    /// The record of the second.
     pub second: Drive,
 }
 
 impl Pair {
     /// The record of the drive that a call is for, and that of the other.
-    fn own(self, side: Side) -> (Drive, Drive) {
+    pub(crate) const fn own(self, side: Side) -> (Drive, Drive) {
         match side {
             Side::First => (self.first, self.second),
             Side::Second => (self.second, self.first),
         }
     }
 
-    /// Both drives with one record, as an opened or read board has it.
-    fn alike(drive: Drive) -> Pair {
+    /// Both drives with one record, as an opened, read or imported board has it.
+    pub(crate) fn alike(drive: Drive) -> Pair {
         Pair { first: drive, second: drive }
     }
 
@@ -127,5 +132,10 @@ impl Pair {
         let (own, other) = self.own(side);
         let reply = unsafe { raw::mandrozsi_pair_save_pieces(own, other, board.as_ptr(), board.len(), output.as_mut_ptr(), output.len()) };
         Ok(reply.done()?.said.first as usize)
+    }
+
+    /// As [`Drive::show`], with both positions.
+    pub fn show(self, board: &[u16]) -> Shown<'_> {
+        Shown::two(self.first, self.second, board)
     }
 }

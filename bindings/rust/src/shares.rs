@@ -1,19 +1,24 @@
 //! Over-allocated streams: the calls that are lent their tables.
-use crate::{changed, raw, reported, served, Change, Drive, Entry, Refusal, Side, Slot, Stream};
+use crate::{changed, raw, reported, served, Change, Drive, Entry, Refusal, Shown, Side, Slot, Stream};
 
-/// The tables of over-allocated streams, each with an entry for each leaf or more: r, and for each drive how far a stream's deficit is below 0, at the
-/// lowest leaf of its piece. What is beyond C is never changed. A single drive has the first; its second stays zero.
+/// The tables of over-allocated streams, each with an entry for each leaf or more. What they say of a stream stands at the lowest leaf of its piece.
+/// What is beyond C is never changed.
 #[derive(Debug)]
 pub struct Tables<'a> {
+    /// The weight r of each over-allocated stream.
     pub rates: &'a mut [u16],
+    /// How far each one's deficit is below 0 on the first drive, or on the only one.
     pub first: &'a mut [u16],
+    /// The same on the second drive; it stays zero where there is one drive.
     pub second: &'a mut [u16],
 }
 
 /// The records of one drive, or of two on one board, where streams may be over-allocated: such a stream has one piece of R leaves, the smallest power of
 /// two not below its weight r, and is served r times a round, as evenly as one piece lies; the other slots of its leaves go to name 0. Each call is that of
-/// [`Pair`](crate::Pair), with these differences: 2 is also for a table that is too short, and every call but open and read answers 5, slot and round too,
-/// where the board is not good or the tables do not fit it. So each looks at the whole board. With one drive every call is for it, whichever side is named.
+/// [`Pair`](crate::Pair), with these differences: 2 is also for a table that is too short, and every call that has a record answers 5, slot and round too,
+/// where the board is not good or the tables do not fit it. So each looks at the whole board. Open, read, read_pieces and import have none: they clear the
+/// first C entries of the tables. The fresh layout moves what the tables say with the streams. With one drive every call is for it, whichever side is
+/// named.
 ///
 /// ```no_run
 /// use mandrozsi::{Refusal, Shares, Side::First, Tables, LIST};
@@ -32,7 +37,9 @@ pub struct Tables<'a> {
 /// ```
 #[derive(Clone, Copy, Debug, PartialEq, Eq)]
 pub struct Shares {
+    /// The record of the first drive, or of the only one.
     pub first: Drive,
+    /// The record of the second, where there are two.
     pub second: Option<Drive>,
 }
 
@@ -59,7 +66,7 @@ macro_rules! lent {
         }
     }};
     (to look at, $call:ident ( $($before:expr),* ), $board:expr, $tables:expr $(, $after:expr)*) => {{
-        let (rates, owed, other) = $tables;
+        let [rates, owed, other] = $tables;
         // SAFETY: as above.
         unsafe {
             raw::$call(
@@ -87,19 +94,54 @@ impl Tables<'_> {
             (self.rates, self.first, self.second)
         }
     }
+}
 
-    fn seen(&self, second: bool) -> (&[u16], &[u16], &[u16]) {
-        if second {
-            (self.rates, self.second, self.first)
-        } else {
-            (self.rates, self.first, self.second)
-        }
+/// What a call that changes nothing looks at: the records, the board, and the tables in the order of [`Tables`].
+pub(crate) struct Seen<'a> {
+    pub shares: Shares,
+    pub board: &'a [u16],
+    pub tables: [&'a [u16]; 3],
+}
+
+impl<'a> Seen<'a> {
+    /// The two records, and the tables, in the order of a call for a side.
+    fn by(&self, side: Side) -> (Drive, Drive, [&'a [u16]; 3]) {
+        let (own, other, second) = self.shares.own(side);
+        let [rates, first, last] = self.tables;
+        let tables = if second { [rates, last, first] } else { [rates, first, last] };
+        (own, other, tables)
+    }
+
+    pub fn round(&self, side: Side, output: &mut [u16]) -> Result<(), Refusal> {
+        let (own, other, tables) = self.by(side);
+        let (start, length) = (output.as_mut_ptr(), output.len());
+        let reply = lent!(to look at, mandrozsi_share_round(own, other), self.board, tables, start, length);
+        reply.done().map(|_| ())
+    }
+
+    pub fn report(&self, side: Side, name: u16) -> Result<Stream, Refusal> {
+        let (own, other, tables) = self.by(side);
+        reported(lent!(to look at, mandrozsi_share_report(own, other), self.board, tables, name))
+    }
+
+    pub fn save(&self, side: Side, output: &mut [u8]) -> Result<usize, Refusal> {
+        let (own, other, tables) = self.by(side);
+        let (start, length) = (output.as_mut_ptr(), output.len());
+        let reply = lent!(to look at, mandrozsi_share_save(own, other), self.board, tables, start, length);
+        Ok(reply.done()?.said.first as usize)
+    }
+
+    pub fn save_pieces(&self, side: Side, output: &mut [u8]) -> Result<usize, Refusal> {
+        let (own, other, tables) = self.by(side);
+        let (start, length) = (output.as_mut_ptr(), output.len());
+        let reply = lent!(to look at, mandrozsi_share_save_pieces(own, other), self.board, tables, start, length);
+        Ok(reply.done()?.said.first as usize)
     }
 }
 
 impl Shares {
     /// The record of the drive that a call is for, that of the other, and whether it is the second.
-    fn own(self, side: Side) -> (Drive, Drive, bool) {
+    pub(crate) const fn own(self, side: Side) -> (Drive, Drive, bool) {
         match (side, self.second) {
             (_, None) => (self.first, self.first, false),
             (Side::First, Some(second)) => (self.first, second, false),
@@ -229,40 +271,43 @@ impl Shares {
         served(record, reply)
     }
 
+    fn seen<'a>(self, board: &'a [u16], tables: &'a Tables) -> Seen<'a> {
+        Seen {
+            shares: self,
+            board,
+            tables: [tables.rates, tables.first, tables.second],
+        }
+    }
+
     /// Writes the C names of a full round from p = 1 with every deficit taken as 0. Refused: 1 to 3, 5, 11.
     pub fn round(self, side: Side, board: &[u16], tables: &Tables, output: &mut [u16]) -> Result<(), Refusal> {
-        let (own, other, second) = self.own(side);
-        let (start, length) = (output.as_mut_ptr(), output.len());
-        let reply = lent!(to look at, mandrozsi_share_round(own, other), board, tables.seen(second), start, length);
-        reply.done().map(|_| ())
+        self.seen(board, tables).round(side, output)
     }
 
     /// Reports on a stream: of an over-allocated one r, its one piece, and the spacing over its serves. Refused: 1 to 3, 5, 6, 9.
     pub fn report(self, side: Side, board: &[u16], tables: &Tables, name: u16) -> Result<Stream, Refusal> {
-        let (own, other, second) = self.own(side);
-        reported(lent!(to look at, mandrozsi_share_report(own, other), board, tables.seen(second), name))
+        self.seen(board, tables).report(side, name)
     }
 
     /// Writes the board's sheet where no stream is over-allocated: the bytes written. Refused: 1 to 5, 11, 17.
     pub fn save(self, side: Side, board: &[u16], tables: &Tables, output: &mut [u8]) -> Result<usize, Refusal> {
-        let (own, other, second) = self.own(side);
-        let (start, length) = (output.as_mut_ptr(), output.len());
-        let reply = lent!(to look at, mandrozsi_share_save(own, other), board, tables.seen(second), start, length);
-        Ok(reply.done()?.said.first as usize)
+        self.seen(board, tables).save(side, output)
     }
 
     /// Writes the sheet that lists the board's pieces where both drives are at one position and no stream is over-allocated: the bytes written. Refused:
     /// 1 to 5, 11, 17.
     pub fn save_pieces(self, side: Side, board: &[u16], tables: &Tables, output: &mut [u8]) -> Result<usize, Refusal> {
-        let (own, other, second) = self.own(side);
-        let (start, length) = (output.as_mut_ptr(), output.len());
-        let reply = lent!(to look at, mandrozsi_share_save_pieces(own, other), board, tables.seen(second), start, length);
-        Ok(reply.done()?.said.first as usize)
+        self.seen(board, tables).save_pieces(side, output)
     }
 
     /// As [`Shares::read`], of a sheet that lists pieces: both drives are at its position.
     pub fn read_pieces(sheet: &[u8], board: &mut [u16], list: &mut [u64], tables: &mut Tables) -> Result<Shares, Refusal> {
         let reply = lent!(with list, mandrozsi_share_read_pieces(sheet.as_ptr(), sheet.len()), board, list, tables.by(false));
         Ok(Shares::two(reply.done()?.drive))
+    }
+
+    /// As [`Drive::show`], with what the tables say of a piece.
+    pub fn show<'a>(self, board: &'a [u16], tables: &'a Tables) -> Shown<'a> {
+        Shown::with_tables(self.seen(board, tables))
     }
 }

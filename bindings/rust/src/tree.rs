@@ -1,10 +1,12 @@
 //! The second engine: a walk down a tree with flip marks, for capacities that are powers of two.
 use crate::{raw, refused, short, Refusal};
 
-/// One slot by a walk: the stream served (0: none), and the leaf it was found at.
+/// One slot by a walk.
 #[derive(Clone, Copy, Debug, PartialEq, Eq)]
 pub struct Walked {
+    /// The stream served; 0: none.
     pub name: u16,
+    /// The leaf it was found at.
     pub leaf: u16,
 }
 

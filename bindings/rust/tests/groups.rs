@@ -1,5 +1,4 @@
 //! The library's import of a group table beside the one by the letter: the answer, the board, the list and the table's round.
-#![cfg(any(linked, served))]
 mod boundary;
 
 use boundary::{answer, record, Boundary};
@@ -56,6 +55,10 @@ impl Import for WithTables {
 }
 
 #[test]
+#[cfg_attr(
+    not(any(linked, served)),
+    ignore = "there is no library to call: .ci/bindings builds it and runs this test"
+)]
 fn the_import_is_the_letter() {
     println!("the boundary: {} imports compared", compare(&Boundary, 3000));
     println!("the safe types: {} imports compared", compare(&Safe, 500));

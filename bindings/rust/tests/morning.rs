@@ -1,7 +1,6 @@
 //! A site's streams in the morning: two hundred changes in one table, at the start of a round and in the middle of one. What each entry must say is
 //! told by counting leaves.
-#![cfg(any(linked, served))]
-#[cfg(served)]
+#[cfg(not(linked))]
 #[path = "boundary/served.rs"]
 mod served;
 
@@ -44,6 +43,10 @@ fn expected(entry: &Entry, idle: &mut u16) -> Result<Change, Refusal> {
 }
 
 #[test]
+#[cfg_attr(
+    not(any(linked, served)),
+    ignore = "there is no library to call: .ci/bindings builds it and runs this test"
+)]
 fn at_the_start_of_a_round() {
     let (mut board, mut list) = (vec![0u16; 4095], [0u64; LIST]);
     let drive = Drive::open(4095, &mut board, &mut list).unwrap();
@@ -65,6 +68,10 @@ fn at_the_start_of_a_round() {
 }
 
 #[test]
+#[cfg_attr(
+    not(any(linked, served)),
+    ignore = "there is no library to call: .ci/bindings builds it and runs this test"
+)]
 fn in_the_middle_of_a_round() {
     let (mut board, mut list) = (vec![0u16; 4095], [0u64; LIST]);
     let mut pair = Pair::open(4095, &mut board, &mut list).unwrap();
@@ -109,6 +116,10 @@ fn in_the_middle_of_a_round() {
 
 /// Every refusal that a change can have, each in an entry, by the record, the board and the list that it is given.
 #[test]
+#[cfg_attr(
+    not(any(linked, served)),
+    ignore = "there is no library to call: .ci/bindings builds it and runs this test"
+)]
 fn every_refusal() {
     let (mut board, mut list) = (vec![0u16; 4], [0u64; LIST]);
     let drive = Drive::open(4, &mut board, &mut list).unwrap();

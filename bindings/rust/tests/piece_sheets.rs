@@ -1,5 +1,4 @@
 //! The library's sheets that list pieces beside those by the letter: what is written and read, sound and broken, and both conversions.
-#![cfg(any(linked, served))]
 mod boundary;
 
 use boundary::{answer, drive, record, Boundary};
@@ -92,6 +91,10 @@ impl PieceSheets for Safe {
 }
 
 #[test]
+#[cfg_attr(
+    not(any(linked, served)),
+    ignore = "there is no library to call: .ci/bindings builds it and runs this test"
+)]
 fn the_sheets_of_pieces_are_the_letter() {
     println!("the boundary: {} sheets of pieces compared", compare(&Boundary, 400));
     println!("the safe types: {} sheets of pieces compared", compare(&Safe, 100));

@@ -1,5 +1,4 @@
 //! The library's calls with tables beside those by the letter: every answer, every record, every lent entry, on random histories of two drives.
-#![cfg(any(linked, served))]
 mod boundary;
 
 use boundary::{answer, asked, drive, left_in, record, Boundary};
@@ -289,6 +288,10 @@ impl Shared for Safe {
 }
 
 #[test]
+#[cfg_attr(
+    not(any(linked, served)),
+    ignore = "there is no library to call: .ci/bindings builds it and runs this test"
+)]
 fn the_calls_with_tables_are_the_letter() {
     println!("the boundary: {} calls with tables compared", compare(&Boundary, 300));
     println!("the safe types: {} calls with tables compared", compare(&Safe, 100));

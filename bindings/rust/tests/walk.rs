@@ -1,10 +1,9 @@
 //! The library's walk beside the one by the letter: the answer and every mark, over rounds from clear marks and from any marks.
-#![cfg(any(linked, served))]
 use mandrozsi::raw::{mandrozsi_walk, Said};
 use mandrozsi::Walked;
 use paper::tree::{self, compare};
 
-#[cfg(served)]
+#[cfg(not(linked))]
 #[path = "boundary/served.rs"]
 mod served;
 
@@ -38,6 +37,10 @@ fn safe(c: u16, board: &[u16], marks: &mut [u16]) -> tree::Walked {
 }
 
 #[test]
+#[cfg_attr(
+    not(any(linked, served)),
+    ignore = "there is no library to call: .ci/bindings builds it and runs this test"
+)]
 fn the_walk_is_the_letter() {
     println!("the boundary: {} walks compared", compare(boundary));
     println!("the safe types: {} walks compared", compare(safe));

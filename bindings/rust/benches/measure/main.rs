@@ -1,6 +1,7 @@
 //! `cargo bench`: what the calls cost beside two plain-Rust versions, and what a slot costs and how far a stream lags beside other schedulers.
-//! `cargo bench -- engines` prints the table of the two engines alone.
+//! `cargo bench -- engines`, `-- rounds` and `-- sheets` print the table of the two engines, of whole rounds and of the two forms of sheet alone.
 //! A table on standard output; with the library linked, docs/measured.csv and docs/measured-*.svg (without it, the same below target/measured/).
+//! `cargo bench -- pictures` measures nothing, and draws the pictures from docs/measured.csv.
 //!
 //! Times are processor time of this thread, medians of several timings, the versions by turns in one run; boards, outputs and sheets are made
 //! before the clock starts and are warm, nothing is cleared between calls. Every version is called through a table of functions, none inlined.
@@ -8,7 +9,10 @@ mod calls;
 mod clock;
 mod engines;
 mod pictures;
+mod rounds;
 mod schedulers;
+#[cfg(linked)]
+mod sheets;
 
 use clock::{median, now};
 use paper::random::Random;
@@ -58,6 +62,11 @@ impl Scheduler for ByRounds {
         self.served += 1;
         usize::from(self.names[self.served - 1]) - 1
     }
+
+    /// A whole round in one call: there are C names.
+    fn fill(&mut self, names: &mut [u16]) {
+        self.drive.round(&self.board, names).expect("an opened board");
+    }
 }
 
 /// The library's walk.
@@ -83,6 +92,10 @@ impl Scheduler for ByHand {
         let answer = paper::hand::slot(self.record, &self.board);
         self.record = answer.record;
         answer.values[0] as usize - 1
+    }
+
+    fn fill(&mut self, names: &mut [u16]) {
+        assert_eq!(paper::hand::round(self.record, &self.board, names).number, 0);
     }
 }
 
@@ -252,6 +265,38 @@ fn print_engines(lines: &[engines::Line], csv: &mut String) {
     }
 }
 
+fn print_rounds(lines: &[rounds::Line], csv: &mut String) {
+    print!("\n{:>5} {:>7}", "C", "streams");
+    rounds::TIMED.iter().for_each(|name| print!(" {name:>20}"));
+    println!("   a slot, by whole rounds");
+    for l in lines {
+        print!("{:>5} {:>7}", l.capacity, l.streams);
+        for (name, cost) in rounds::TIMED.iter().zip(l.costs) {
+            print!(" {:>20}", cost.map_or("-".into(), short));
+            if let Some(ns) = cost {
+                writeln!(csv, "round,{},{},a slot of a round,{name},{ns:.2},ns", l.capacity, l.streams).unwrap();
+            }
+        }
+        println!();
+    }
+}
+
+#[cfg(linked)]
+fn print_sheets(lines: &[sheets::Line], csv: &mut String) {
+    print!("\n{:>7} {:>7}", "streams", "weight");
+    sheets::TIMED.iter().for_each(|name| print!(" {name:>11}"));
+    println!(" {:>8} {:>8}   C = 4095", "of saves", "of reads");
+    for l in lines {
+        print!("{:>7} {:>7}", l.streams, l.weight);
+        for (name, ns) in sheets::TIMED.iter().zip(l.costs) {
+            print!(" {:>11}", short(ns));
+            writeln!(csv, "sheet,{C},{},{name},library,{ns:.1},ns", l.streams).unwrap();
+        }
+        let [save, save_pieces, read, read_pieces, ..] = l.costs;
+        println!(" {:>8.2} {:>8.2}", save_pieces / save, read_pieces / read);
+    }
+}
+
 /// The rounds of one small board's streams, scheduler by scheduler.
 fn strips() -> Vec<(&'static str, Vec<usize>)> {
     let mut rows = Vec::new();
@@ -265,43 +310,76 @@ fn strips() -> Vec<(&'static str, Vec<usize>)> {
     rows
 }
 
-fn main() {
-    let repository = Path::new(env!("CARGO_MANIFEST_DIR")).join("../..");
-    #[cfg(linked)]
-    let (ours, folder): (Option<&dyn Calls>, PathBuf) = (Some(&boundary::Boundary), repository.join("docs"));
-    #[cfg(not(linked))]
-    let (ours, folder): (Option<&dyn Calls>, PathBuf) = (None, repository.join("target/measured"));
-    if ours.is_none() {
-        println!("The static library is not linked here (see build.rs): its columns and its scheduler are missing.\n");
-    }
-    #[cfg(linked)]
-    let walks = Some((&boundary::Boundary as &dyn Calls, library_walk as paper::tree::Version));
-    #[cfg(not(linked))]
-    let walks = None;
-    let mut csv = String::from("table,capacity,streams,what,version,value,unit\n");
-    if std::env::args().any(|word| word == "engines") {
-        print_engines(&engines::table(walks), &mut csv);
-        return;
-    }
-    print_calls(&calls::table(ours), &mut csv);
-    let points = scheduler_points();
-    print_schedulers(&points, &mut csv);
-    print_engines(&engines::table(walks), &mut csv);
-    std::fs::create_dir_all(&folder).expect("the folder can be made");
+/// The pictures of what the lines of a measurement say, and of the rounds.
+fn write_pictures(csv: &str, folder: &Path) {
     let write = |name: &str, text: &str| std::fs::write(folder.join(name), text).expect("the folder can be written");
-    write("measured.csv", &csv);
+    let cost = pictures::curves(csv, "cost of a slot");
     write(
         "measured-cost.svg",
-        &pictures::lines("Cost of a slot, C = 4,095", "nanoseconds", &points, |p| p.cost),
+        &pictures::lines("Cost of a slot, C = 4,095", "nanoseconds", "", &cost),
     );
+    let lag = pictures::curves(csv, "worst lag");
     write(
         "measured-lag.svg",
-        &pictures::lines("Worst lag within a round, C = 4,095 (none is drawn at 0.5)", "slots", &points, |p| p.lag),
+        &pictures::lines("Worst lag within a round, C = 4,095", "slots", "1 stream: no lag", &lag),
     );
     write(
         "measured-round.svg",
         &pictures::strips("One round of 15 slots: streams of weight 6, 4, 3 and 2", &strips()),
     );
+}
+
+/// The tables that can be asked for alone.
+const PARTS: [&str; 3] = ["engines", "rounds", "sheets"];
+
+/// Prints the tables asked for, or all where none is, and gives the lines of measured.csv.
+fn measure(ours: Option<&dyn Calls>, asked: &[String]) -> String {
+    #[cfg(linked)]
+    let walks = ours.map(|calls| (calls, library_walk as paper::tree::Version));
+    #[cfg(not(linked))]
+    let walks = None;
+    let wanted = |part: &str| asked.is_empty() || asked.iter().any(|word| word == part);
+    let mut csv = String::from("table,capacity,streams,what,version,value,unit\n");
+    if asked.is_empty() {
+        print_calls(&calls::table(ours), &mut csv);
+        print_schedulers(&scheduler_points(), &mut csv);
+    }
+    if wanted("engines") {
+        print_engines(&engines::table(walks), &mut csv);
+    }
+    if wanted("rounds") {
+        print_rounds(&rounds::table(), &mut csv);
+    }
+    #[cfg(linked)]
+    if wanted("sheets") {
+        print_sheets(&sheets::table(), &mut csv);
+    }
+    csv
+}
+
+fn main() {
+    let repository = Path::new(env!("CARGO_MANIFEST_DIR")).join("../..");
+    if std::env::args().any(|word| word == "pictures") {
+        let docs = repository.join("docs");
+        let csv = std::fs::read_to_string(docs.join("measured.csv")).expect("docs/measured.csv can be read");
+        write_pictures(&csv, &docs);
+        return;
+    }
+    #[cfg(linked)]
+    let (ours, folder): (Option<&dyn Calls>, PathBuf) = (Some(&boundary::Boundary), repository.join("docs"));
+    #[cfg(not(linked))]
+    let (ours, folder): (Option<&dyn Calls>, PathBuf) = (None, repository.join("target/measured"));
+    if ours.is_none() {
+        println!("The static library is not linked here (see build.rs): its columns, its scheduler and its sheets are missing.\n");
+    }
+    let asked: Vec<String> = std::env::args().filter(|word| PARTS.contains(&word.as_str())).collect();
+    let csv = measure(ours, &asked);
+    if !asked.is_empty() {
+        return;
+    }
+    std::fs::create_dir_all(&folder).expect("the folder can be made");
+    std::fs::write(folder.join("measured.csv"), &csv).expect("the folder can be written");
+    write_pictures(&csv, &folder);
     println!(
         "\nwritten: measured.csv, measured-cost.svg, measured-lag.svg, measured-round.svg in {}",
         folder.display()

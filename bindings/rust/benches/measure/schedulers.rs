@@ -5,6 +5,13 @@ use std::collections::BinaryHeap;
 pub trait Scheduler {
     /// The stream that the next slot serves.
     fn next(&mut self) -> usize;
+
+    /// Writes as many slots as there is room for, each as its stream's index and one more. Each scheduler has this loop compiled with its own `next`.
+    fn fill(&mut self, names: &mut [u16]) {
+        for name in names {
+            *name = self.next() as u16 + 1;
+        }
+    }
 }
 
 /// Plain weighted turn: each stream in turn, as many slots in a row as it has weight.

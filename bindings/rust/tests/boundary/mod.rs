@@ -5,7 +5,7 @@ use paper::batch::Entry;
 use paper::trial::Calls;
 use paper::{Answer, Record, Records};
 
-#[cfg(served)]
+#[cfg(not(linked))]
 mod served;
 
 pub fn drive(record: Record) -> Drive {
