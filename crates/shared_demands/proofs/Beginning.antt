@@ -1,7 +1,8 @@
--- What an open and a read with tables leave, once they are done, is what a history may begin with: both drives are given the record that they return.
+-- What an open and a read of either form of sheet with tables leave, once they are done, is what a history may begin with: both drives are given the record
+-- that they return.
 -- Assumes nothing.
-use mathlib.Core.Path.{_≡_, refl}
-use mathlib.Core.Bool.{Bool, true, false, not, _||_}
+use mathlib.Core.Path.{_≡_, refl, _∙_}
+use mathlib.Core.Bool.{Bool, true, false, _||_}
 use mathlib.Core.List.{List, [], _∷_, _++_}
 use Prim.Native.Nat.{ℕ, _≤_}
 use native.Mathlib.Omega.{arith}
@@ -15,21 +16,22 @@ use Rattle.calls.specs.declared.Refusal.{Refusal}
 use Rattle.calls.specs.declared.Refusal.the-variants.{Short}
 use Rattle.calls.specs.declared.Check.the-variants.{Clear}
 use Rattle.calls.specs.Records.{driveAt}
-use Rattle.calls.specs.Refusals.{andThen, refuseIf, openCheck, goodCheck}
+use Rattle.calls.specs.Refusals.{andThen, refuseIf, openCheck, slotCheck}
 use Rattle.calls.specs.Results.{idleBoard}
-use Rattle.calls.proofs.Laws.{Sized, first-clear, then-clear, open-clear}
-use Rattle.sheets.specs.Sheet.{capacityIn, sheetLeaves, laid}
-use Rattle.sheets.specs.Forms.{blockCheck, startCheck}
+use Rattle.calls.proofs.Laws.{Sized, first-clear, then-clear, open-clear, open-sized, slot-parts}
+use Rattle.sheets.specs.Sheet.{capacityIn, sheetLeaves}
+use Rattle.sheets.specs.Entries.{positionIn, spelled}
+use Rattle.sheets.specs.Forms.{Form, startCheck, heldCheck}
 use Rattle.sheets.specs.Forms as forms
-use Rattle.sheets.specs.Results as sheets
-use Rattle.sheets.proofs.Laws.{read-sized, read-good}
+use Rattle.sheets.specs.Results.{leafForm, pieceForm}
+use Rattle.sheets.proofs.Laws.{read-sized, read-good, read-pieces-sized, read-pieces-good, read-pieces-position}
 use Rattle.tables.proofs.Laws.{zero-intro, cleared-length, cleared-zero, cleared-fits}
 use Rattle.demands.proofs.Laws.{stateAt, opened, slot-clear}
 use Rattle.waiting.specs.Layout.{tooShort, emptied}
 use Rattle.waiting.proofs.Laws.{empty-length}
 use Rattle.shares.specs.States.{State}
 use Rattle.shares.specs.Checks.{tooFew}
-use Rattle.share_boards.specs.Keeping.{lentCheck, openingCheck, readingCheck, cleared, openedState, openedList, loadedState, loadedList}
+use Rattle.share_boards.specs.Keeping.{lentCheck, openingCheck, readingCheckAs, readingCheck, cleared, openedState, openedList, loadedState, loadedList}
 use Rattle.share_boards.specs.Keeping as keeping
 use Rattle.shared_demands.specs.Holding.{Ready}
 use Rattle.shared_demands.proofs.Checking.{lent-share}
@@ -54,14 +56,12 @@ lent-long C t n e =
     let r = neither (ltb (length (t .owed)) C) (ltb (length (t .other)) C) (q .1) in
     record { list = ltb-false n 259 (p .0); rates = ltb-false (length (t .rates)) C (q .0); owed = ltb-false (length (t .owed)) C (r .0); other = ltb-false (length (t .other)) C (r .1) }
 
--- a good board D of C leaves, the tables cleared and the list emptied
-begun : (C : ℕ) (D : List ℕ) (t : State) (L : List ℕ) → Sized C D → good C D ≡ true → Long C t (length L)
-    → Ready (record { own = driveAt C 1; other = driveAt C 1; state = cleared C D t; list = emptied L })
-begun C D t L is fine long =
-    let at = first-position C (is .some) (let f = is .few in omega arith) in
-    let slot = slot-clear (stateAt (driveAt C 1) D) (record { at = at; long = is .long }) in
+-- a good board D of C leaves, both drives at p, the tables cleared and the list emptied
+begun : (C p : ℕ) (D : List ℕ) (t : State) (L : List ℕ) → slotCheck (driveAt C p) D ≡ Clear → good C D ≡ true → Long C t (length L)
+    → Ready (record { own = driveAt C p; other = driveAt C p; state = cleared C D t; list = emptied L })
+begun C p D t L slot fine long =
     record {
-      clear = lent-share (driveAt C 1) (driveAt C 1) (cleared C D t) (length (emptied L)) (record {
+      clear = lent-share (driveAt C p) (driveAt C p) (cleared C D t) (length (emptied L)) (record {
         own = slot;
         other = slot;
         same = refl;
@@ -74,6 +74,10 @@ begun C D t L is fine long =
       none = zero-intro (cleared C D t .rates) C (cleared-zero C (t .rates));
     }
 
+-- a slot at the start of a round
+starting : (C : ℕ) (D : List ℕ) → Sized C D → slotCheck (driveAt C 1) D ≡ Clear
+starting C D is = slot-clear (stateAt (driveAt C 1) D) (record { at = first-position C (is .some) (let f = is .few in omega arith); long = is .long })
+
 module _ (t : State) (L : List ℕ) where
   pub open-ready : (C : ℕ) → openingCheck C t (length L) ≡ Clear
       → Ready (record { own = keeping.opened C t (length L) .drive; other = keeping.opened C t (length L) .drive; state = openedState C t (length L); list = openedList C t L })
@@ -82,15 +86,35 @@ module _ (t : State) (L : List ℕ) where
       let z = open-clear C (t .board) (first-clear (openCheck C (t .board)) (lentCheck C t (length L)) e) in
       let o = opened C (t .board) (record { some = z .some; few = z .few; long = z .long }) in
       let long = lent-long C t (length L) (then-clear (openCheck C (t .board)) (lentCheck C t (length L)) e) in
-      rw e (begun C (idleBoard C (t .board)) t L (record { some = z .some; few = z .few; long = o .valid .long }) (o .fine) long)
+      let D = idleBoard C (t .board) in
+      rw e (begun C 1 D t L (starting C D (record { some = z .some; few = z .few; long = o .valid .long })) (o .fine) long)
+
+  -- what is known once a read of a form of sheet is done
+  accepts : (form : Form) (S : List ℕ) → readingCheckAs form S t (length L) ≡ Clear
+      → (forms.readingCheck form S (t .board) ≡ Clear) × Long (capacityIn S) t (length L)
+  unfolding keeping.readingCheckAs forms.readingCheck
+  accepts form S e =
+      let C = capacityIn S in
+      let rest = heldCheck form C S in
+      let lent = lentCheck C t (length L) in
+      let later = then-clear (startCheck S (t .board)) (andThen lent rest) e in
+      (rw (first-clear (startCheck S (t .board)) (andThen lent rest) e) (then-clear lent rest later), lent-long C t (length L) (first-clear lent rest later))
 
   pub read-ready : (S : List ℕ) → readingCheck S t (length L) ≡ Clear
       → Ready (record { own = keeping.loaded S t (length L) .drive; other = keeping.loaded S t (length L) .drive; state = loadedState S t (length L); list = loadedList S t L })
-  unfolding keeping.readingCheckAs forms.readingCheck
   read-ready S e =
       let C = capacityIn S in
-      let rest = andThen (blockCheck (not (laid C S))) (goodCheck C (sheetLeaves C S)) in
-      let lent = lentCheck C t (length L) in
-      let later = then-clear (startCheck S (t .board)) (andThen lent rest) e in
-      let a : sheets.readCheck S (t .board) ≡ Clear = rw (first-clear (startCheck S (t .board)) (andThen lent rest) e) (then-clear lent rest later) in
-      rw e (begun C (sheetLeaves C S ++ drop C (t .board)) t L (read-sized S (t .board) a) (read-good S (t .board) a) (lent-long C t (length L) (first-clear lent rest later)))
+      let D = sheetLeaves C S ++ drop C (t .board) in
+      let a = accepts leafForm S e in
+      rw e (begun C 1 D t L (starting C D (read-sized S (t .board) (a .0))) (read-good S (t .board) (a .0)) (a .1))
+
+  -- with the position that the sheet has
+  pub read-pieces-ready : (S : List ℕ) → readingCheckAs pieceForm S t (length L) ≡ Clear
+      → Ready (record { own = keeping.loadedAs pieceForm S t (length L) .drive; other = keeping.loadedAs pieceForm S t (length L) .drive; state = keeping.loadedStateAs pieceForm S t (length L); list = keeping.loadedListAs pieceForm S t L })
+  read-pieces-ready S e =
+      let C = capacityIn S in
+      let D = spelled C S ++ drop C (t .board) in
+      let a = accepts pieceForm S e in
+      let slot : slotCheck (driveAt C (positionIn S)) D ≡ Clear =
+      slot-parts (driveAt C (positionIn S)) D ∙ rw (open-sized C D (read-pieces-sized S (t .board) (a .0))) (read-pieces-position S (t .board) (a .0)) in
+      rw e (begun C (positionIn S) D t L slot (read-pieces-good S (t .board) (a .0)) (a .1))

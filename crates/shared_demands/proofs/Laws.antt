@@ -45,7 +45,7 @@ use Rattle.shared_demands.proofs.Serving.{Asked, asked-turned, asked, t
 pub use Rattle.shared_demands.proofs.Promised.{change-kept, slot-kept}
 -- ---- Where a history begins: every open and every read that is done leaves what it may begin with
 
-pub use Rattle.shared_demands.proofs.Beginning.{open-ready, read-ready}
+pub use Rattle.shared_demands.proofs.Beginning.{open-ready, read-ready, read-pieces-ready}
 -- ---- Demand 1: what a call that is not done answers, and that it changes nothing but for what 10 and 13 say, and a change's 13 puts on the list
 
 pub use Rattle.shared_demands.proofs.Refusing.{demand-1-add, demand-1-over, demand-1-remove, demand-1-slot}
