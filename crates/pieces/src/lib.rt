@@ -111,8 +111,6 @@ pub fn good(board: &[u16], c: usize) -> bool
     weights(board, c, &mut sizes)
 }
 
-// ---- placing
-
 // Gives the leaves from a on to a name.
 pub fn fill(board: &mut [u16], a: usize, size: usize, name: u16)
     requires { ⌜ (a + size ≤ length (now board)) × (a + size ≤ 4096) ⌝ }
