@@ -35,22 +35,22 @@
  *   is locked.
  * - There is stack enough. Measured, in bytes from the return address down, so without the caller's own for arguments and reply (C = 4,095 with
  *   200 streams; docs/MEASURED.md says how):
- *     walk, fetch; open; round; import                    8, 8; 40; 124; 2,064
- *     slot away from p = 1; at p = 1; with 64 orders        168; 232; 35,512
- *     slot_here, the same three                             312; 376; 35,656
- *     report, save, read                              26,088, 26,136, 34,248
- *     add, remove, batch                              26,496, 26,880, 26,992
- *     to_pieces, save_pieces                                  42,488, 49,656
- *     fresh, read_pieces, to_leaves                   59,280, 59,368, 67,656
- *     pair_slot, the same three                             248; 312; 35,592
+ *     walk, fetch; open; round; import                    8, 8; 40; 124; 2,272
+ *     slot away from p = 1; at p = 1; with 64 orders        168; 232; 40,704
+ *     slot_here, the same three                             312; 376; 40,848
+ *     report, save, read                              26,080, 26,160, 34,240
+ *     add, remove, batch                              26,752, 26,832, 26,944
+ *     to_pieces, save_pieces                                  42,480, 49,528
+ *     fresh, read_pieces, to_leaves                   59,472, 59,360, 67,648
+ *     pair_slot, the same three                             248; 312; 40,784
  *     any other call for two drives                          16 more at most
- *     with tables: open, import                                    72, 2,064
- *     slot; with 64 adds; with 64 removes             26,264; 26,264; 49,720
- *     slot_here, the same three                       26,328; 26,328; 49,784
- *     save, add, over                                 26,280, 26,376, 26,376
- *     read, round, report                             34,264, 34,296, 42,472
- *     remove, batch, fresh                            49,816, 49,880, 51,184
- *     read_pieces, save_pieces                                59,400, 74,344
+ *     with tables: open, import                                    72, 2,272
+ *     slot; with 64 adds; with 64 removes             26,304; 26,304; 49,720
+ *     slot_here, the same three                       26,368; 26,368; 49,784
+ *     save, add, over                                 26,240, 26,384, 26,384
+ *     read, round, report                             34,256, 34,368, 42,528
+ *     remove, batch, fresh                            49,784, 49,848, 51,312
+ *     read_pieces, save_pieces                                59,392, 50,736
  *
  * Of a C library the archive needs memcpy and memset, and nothing else. */
 #ifndef MANDROZSI_H

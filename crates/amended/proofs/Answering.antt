@@ -1,5 +1,4 @@
--- What the calls with the list answer: only the numbers of their lists; refused, nothing is changed.
--- Assumes nothing.
+-- What the calls with the list answer: only the numbers of their lists; refused, nothing is changed. Assumes nothing.
 use mathlib.Core.Path.{_≡_, refl, subst}
 use mathlib.Core.Bool.{Bool, true, false, cond, not}
 use mathlib.Core.List.{List, [], _∷_, _++_}
@@ -9,8 +8,9 @@ use native.Mathlib.Omega.{arith}
 use lib.Dec.{eqb, ltb}
 use lib.ListN.{length, drop}
 use borrow.Author.Tests.{eq-eqb, eqb-false}
+use Rattle.drives.proofs.Laws.{remove-order}
 use Rattle.general.proofs.Laws.{clash, by-bool}
-use Rattle.pieces.specs.Board.{good, weight, number}
+use Rattle.pieces.specs.Board.{good, weight, pieceCount}
 use Rattle.pieces.specs.Fresh.{fresh}
 use Rattle.calls.specs.declared.Drive.{Drive}
 use Rattle.calls.specs.declared.Refusal.{Refusal}
@@ -22,8 +22,9 @@ use Rattle.calls.specs.Records.{driveAt}
 use Rattle.calls.specs.Answers.{numberBy, answered, beside}
 use Rattle.calls.specs.Results.{ifClear, roundNames, reportedSpacing}
 use Rattle.calls.proofs.Laws.{refusal, Within, covers, first-next, first-within, then-within, if-within, part-within, other-number, change-parts, add-parts, remove-parts, round-answers, report-answers, fresh-answers}
+use Rattle.demands.specs.Refusing.{zeros}
 use Rattle.sheets.specs.Sheet.{capacityIn}
-use Rattle.sheets.specs.Forms.{Form, sizeOf, savingCheck, askedSheet, blockCheck, startCheck}
+use Rattle.sheets.specs.Forms.{Form, sizeOf, savingCheck, askedSheet, blockCheck, headCheck}
 use Rattle.sheets.specs.Results.{savePiecesMay}
 use Rattle.sheets.proofs.Laws.{save-answers, save-pieces-answers}
 use Rattle.waiting.specs.declared.Order.{Order}
@@ -36,7 +37,7 @@ use Rattle.orders.specs.Results.{addOrder, removeOrder, carriedAnswer, carriedB
 use Rattle.orders.proofs.Laws.{now-start}
 use Rattle.amended.specs.Deeds.{Sheets, Leaves, Pieces, formOf, Deed, Opens, Reads, Adds, Removes, Slots, Rounds, Reports, Saves, Fetches, Refreshes, Desk, openChecks, readChecks, firstChecks, wayAt, answers}
 use Rattle.amended.specs.Refusing as refusing
-use Rattle.amended.specs.Refusing.{RefusedBy, mayAnswer, isDone, zeros, idleLeaves}
+use Rattle.amended.specs.Refusing.{RefusedBy, mayAnswer, isDone, idleLeaves}
 
 -- ---- the checks keep to their lists
 
@@ -58,13 +59,13 @@ unfolding blockCheck covers zeroOr
 block-within broken = part-within (12 ∷ 1 ∷ 2 ∷ 5 ∷ []) (12 ∷ []) (blockCheck broken) refl (first-within (Block ∷ []) (askedSheet broken))
 
 read-within : (F : Form) (S B : List ℕ) (n : ℕ) → Within (12 ∷ 1 ∷ 2 ∷ 5 ∷ []) (readingCheck F S B n)
-unfolding readingCheck startCheck openCheck goodCheck covers zeroOr
+unfolding readingCheck headCheck openCheck goodCheck covers zeroOr
 read-within F S B n =
     let ns : List ℕ = 12 ∷ 1 ∷ 2 ∷ 5 ∷ [] in
     let C = capacityIn S in
     let sound = goodCheck C (F .leaves C S) in
     let laying = andThen (blockCheck (not (F .laid C S))) sound in
-    then-within ns (startCheck S B) (andThen (longCheck n) laying)
+    then-within ns (headCheck S B) (andThen (longCheck n) laying)
     (then-within ns (blockCheck (ltb (length S) 512)) (openCheck C B) (block-within (ltb (length S) 512))
     (part-within ns (1 ∷ 2 ∷ []) (openCheck C B) refl (first-within openMay (askedOpen C B))))
     (then-within ns (longCheck n) laying (if-within ns (tooShort n) Short Clear refl refl)
@@ -85,12 +86,6 @@ order-within C B o =
     let weightless = cond (eqb (o .kind) 2) false (eqb (o .weight) 0) in
     if-within ns (not (good C B)) Damaged (refuseIf (eqb (o .name) 0) Name (refuseIf weightless Weight Clear)) refl
     (if-within ns (eqb (o .name) 0) Name (refuseIf weightless Weight Clear) refl (if-within ns weightless Weight Clear refl refl))
-
-pub remove-order-within : (C : ℕ) (B : List ℕ) (x : ℕ) → Within (5 ∷ 6 ∷ []) (orderCheck C B (removeOrder x))
-unfolding orderCheck zeroOr
-remove-order-within C B x =
-    let ns : List ℕ = 5 ∷ 6 ∷ [] in
-    if-within ns (not (good C B)) Damaged (refuseIf (eqb x 0) Name Clear) refl (if-within ns (eqb x 0) Name Clear refl refl)
 
 -- a change that is made at position 1 is not refused for MIDROUND
 change-within : (d : Drive) (B : List ℕ) → d .position ≡ 1 → Within (1 ∷ 2 ∷ 3 ∷ 5 ∷ []) (changeCheck d B)
@@ -264,7 +259,7 @@ module _ (s : Desk) where
       record {
         within = way-within removeFirsts (firstChecks s) (mustWait d L) (orderCheck (d .capacity) B o)
             (part-within removeFirsts (1 ∷ 2 ∷ 3 ∷ []) (firstChecks s) refl (bounds-within d B (length L)))
-            (part-within removeFirsts (5 ∷ 6 ∷ []) (orderCheck (d .capacity) B o) refl (remove-order-within (d .capacity) B x));
+            (part-within removeFirsts (5 ∷ 6 ∷ []) (orderCheck (d .capacity) B o) refl (remove-order (d .capacity) B x));
         first = now-start d B L o;
       }
 
@@ -385,7 +380,7 @@ demand-1-amended (Rounds O) s h =
 demand-1-amended (Reports x) s h =
     let d = s .state .drive in
     let B = s .state .board in
-    report-refused s x (weight (d .capacity) B x) (number (d .capacity) B x) (reportedSpacing d B x) (reportCheck d B x) (report-answers d B x) h
+    report-refused s x (weight (d .capacity) B x) (pieceCount (d .capacity) B x) (reportedSpacing d B x) (reportCheck d B x) (report-answers d B x) h
 demand-1-amended (Saves form O) s h =
     let d = s .state .drive in
     let B = s .state .board in

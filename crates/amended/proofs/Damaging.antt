@@ -1,5 +1,4 @@
--- On a good board no call with the list answers DAMAGED.
--- Assumes nothing.
+-- On a good board no call with the list answers DAMAGED. Assumes nothing.
 use mathlib.Core.Path.{_≡_, refl, sym, ap, _∙_}
 use mathlib.Core.Bool.{true, false, cond, not}
 use mathlib.Core.List.{List, [], _∷_}
@@ -19,7 +18,7 @@ use Rattle.calls.proofs.Laws.{Within, covers, if-within, part-within, other-num
 use Rattle.sheets.specs.Forms.{sizeOf, savingCheck}
 use Rattle.sheets.proofs.Laws.{save-ascending, save-pieces-ascending}
 use Rattle.demands.specs.Histories.{Add, Remove, Round, Report, Fresh, State}
-use Rattle.demands.specs.Holdings.{Stream}
+use Rattle.pieces.specs.Streams.{Stream}
 use Rattle.demands.proofs.Laws.{Sound, never-damaged}
 use Rattle.waiting.specs.declared.Order.{Order}
 use Rattle.waiting.specs.Layout.{full}

@@ -9,14 +9,15 @@ use native.Mathlib.Omega.{arith}
 use lib.Count.{ones}
 use lib.Dec.{eqb, ltb}
 use lib.ListN.{length, getD, replicate}
-use Rattle.pieces.specs.Board.{weight, number}
+use Rattle.sequences.specs.Scanning.{occurrences}
+use Rattle.pieces.specs.Board.{weight, pieceCount}
 use Rattle.calls.specs.declared.Check.the-variants.{Clear}
-use Rattle.calls.specs.Refusals.{firstOf, askedAdd}
+use Rattle.calls.specs.Refusals.{firstOf, askedAdd, admitMay}
 use Rattle.calls.specs.Results.{roundNames}
 use Rattle.demands.specs.Histories.{Act, State, after, log}
-use Rattle.demands.specs.Refusing.{otherChecks}
-use Rattle.demands.specs.Holdings.{Stream, heldFrom, heldOf, total}
-use Rattle.demands.specs.Rounds.{times, inARow, Near, bound, demanded}
+use Rattle.pieces.specs.Streams.{Stream, heldOf, total}
+use Rattle.demands.specs.Holdings.{heldFrom}
+use Rattle.demands.specs.Rounds.{inARow, Near, bound, demanded}
 use Rattle.demands.specs.Stretches.{PowerOfTwo, PowerFair, StillFair}
 use Rattle.demands.proofs.Laws.{same-either, fresh-passes, fresh-equal, fresh-rounds}
 use Rattle.waiting.specs.declared.Order.{Order}
@@ -33,7 +34,7 @@ use Rattle.amended.specs.Refusing.{ofBoard}
 use Rattle.amended.specs.Stretches.{Still}
 use Rattle.amended.proofs.Carrying.{add-says}
 use Rattle.amended.proofs.Projection.{ranState, add-made}
-use Rattle.amended.proofs.Keeping.{held-leaves, held-pieces, held-within, turn-others, turn-room, turn-carried, Serves, round-serves}
+use Rattle.amended.proofs.Held.{held-leaves, held-pieces, held-within, turn-others, turn-room, turn-carried, Serves, round-serves}
 use Rattle.amended.proofs.Sounding.{Standing, standing, restart-ready}
 use Rattle.amended.proofs.Damaging.{undamaged}
 use Rattle.amended.proofs.Listing.{count-up, up-rising, in-order, followed, taken-follows, add-thirteen, remove-thirteen}
@@ -114,7 +115,7 @@ module _ (s : Desk) (ready : Ready s) (deeds : List Deed) where
   pub amended-held : (x : ℕ) → (x ≡ 0 → ⊥) → heldOf x held' ≡ weight C (desk' .state .board) x
   amended-held = held-leaves (desk' .state) held' (st .sound)
 
-  pub amended-pieces : (x : ℕ) → (x ≡ 0 → ⊥) → number C (desk' .state .board) x ≡ ones (heldOf x held')
+  pub amended-pieces : (x : ℕ) → (x ≡ 0 → ⊥) → pieceCount C (desk' .state .board) x ≡ ones (heldOf x held')
   amended-pieces = held-pieces (desk' .state) held' (st .sound)
 
   pub amended-within : total held' ≤ C
@@ -132,11 +133,11 @@ module _ (s : Desk) (ready : Ready s) (deeds : List Deed) where
 
     -- It passes the checks beside ROOM if a round begins, it has a name and a weight, and nothing is held of the name;
     pub amended-others : (x w : ℕ) → turn .drive .position ≡ 1 → (x ≡ 0 → ⊥) → (w ≡ 0 → ⊥) → heldOf x heldInTurn ≡ 0
-        → firstOf otherChecks (askedAdd (turn .drive) (turn .board) x w) ≡ Clear
+        → firstOf admitMay (askedAdd (turn .drive) (turn .board) x w) ≡ Clear
     amended-others = turn-others (desk' .state) held' (st .sound) ahead
 
     -- and then it is refused for ROOM exactly when its weight exceeds C less the sum of the weights held, and else it is done. Refused so, it says that number.
-    pub amended-room : (x w : ℕ) → firstOf otherChecks (askedAdd (turn .drive) (turn .board) x w) ≡ Clear
+    pub amended-room : (x w : ℕ) → firstOf admitMay (askedAdd (turn .drive) (turn .board) x w) ≡ Clear
         → (inTurn (desk' .state) ahead (addOrder x w) .number ≡ cond (ltb (C - total heldInTurn) w) 10 0)
         × (inTurn (desk' .state) ahead (addOrder x w) .number ≡ 10 → inTurn (desk' .state) ahead (addOrder x w) .values ≡ (C - total heldInTurn) ∷ [])
     amended-room = turn-room (desk' .state) held' (st .sound) ahead
@@ -172,8 +173,7 @@ module _ (s : Desk) (ready : Ready s) (deeds : List Deed) where
     later = plain (leaves Slots desk') rest
 
     serves : Serves C (ranState desk' .board) (heldThen held' desk') (namesServed desk' (Slots ∷ rest))
-    serves =
-        round-serves (ranState desk') (heldThen held' desk') (ran-sound held' desk' st) later (plain-round held' desk' st rest full)
+    serves = round-serves (ranState desk') (heldThen held' desk') (ran-sound held' desk' st) later (plain-round held' desk' st rest full)
         (namesServed desk' (Slots ∷ rest)) (round-names held' desk' st rest full)
 
     -- A full round serves the names that round would write once the list has run: the first slot is picked after that.
@@ -181,17 +181,17 @@ module _ (s : Desk) (ready : Ready s) (deeds : List Deed) where
     amended-order = serves .order
 
     -- In it a name is served as often as the weight that it holds once the list has run.
-    pub amended-round : (x : ℕ) → (x ≡ 0 → ⊥) → times x (namesServed desk' (Slots ∷ rest)) ≡ heldOf x (heldThen held' desk')
+    pub amended-round : (x : ℕ) → (x ≡ 0 → ⊥) → occurrences x (namesServed desk' (Slots ∷ rest)) ≡ heldOf x (heldThen held' desk')
     amended-round = serves .often
 
     -- In any t successive slots of it a stream of weight w is served s times, and C s and w t differ by less than m C + w h,
     pub amended-fair : (x w i t : ℕ) → heldOf x (heldThen held' desk') ≡ w → zero < w → i + t ≤ C
-        → Near (C * times x (inARow i t (namesServed desk' (Slots ∷ rest)))) (w * t) (bound C w)
+        → Near (C * occurrences x (inARow i t (namesServed desk' (Slots ∷ rest)))) (w * t) (bound C w)
     amended-fair = serves .fair
 
     -- so by less than the demand's own 2 m C + w h.
     pub amended-demanded : (x w i t : ℕ) → heldOf x (heldThen held' desk') ≡ w → zero < w → i + t ≤ C
-        → Near (C * times x (inARow i t (namesServed desk' (Slots ∷ rest)))) (w * t) (demanded C w)
+        → Near (C * occurrences x (inARow i t (namesServed desk' (Slots ∷ rest)))) (w * t) (demanded C w)
     amended-demanded x w i t h some within = let f = amended-fair x w i t h some within in omega arith
 
   -- ---- Request No. 13: calls in which nothing is changed, over any number of rounds

@@ -6,8 +6,9 @@ use mathlib.Core.Path.{_≡_, refl}
 use mathlib.Core.List.{List, [], _∷_, _++_}
 use Prim.Native.Nat.{ℕ}
 use lib.ListN.{take, replicate}
-use Rattle.sequences.specs.Board.{leafAt, nextFrom}
+use Rattle.sequences.specs.SlotOrder.{leafAt, nextFrom}
 use Rattle.sequences.specs.Serving.{countList}
+use Rattle.sequences.specs.Scanning.{occurrences}
 use Rattle.pieces.specs.Board.{uniform, whole, pieces, weight, nth, single, sound, sum}
 use Rattle.pieces.specs.Placing.{fill, first, fit, spot, put, place}
 use Rattle.pieces.specs.Tidying.{copy, move, twin, join, pair, step, tidy, clear}
@@ -15,9 +16,9 @@ use Rattle.calls.specs.Refusals.{openCheck, addCheck, removeCheck, slotCheck, p
 use Rattle.calls.specs.Results.{idleBoard}
 use Rattle.calls.specs.Records.{driveAt}
 use Rattle.demands.specs.Histories.{Add, Remove, Slot, log}
-use Rattle.demands.specs.Rounds.{inARow, times}
+use Rattle.demands.specs.Rounds.{inARow}
 use Rattle.demands.specs.Stretches.{noneDone}
-use Rattle.waiting.specs.Layout.{least, answersIn, ordersIn, orderAt, outcomeAt, ordersFrom, waiting, counted, full, putAt, joined, answeredAt, answeredFrom, settled, foundFrom, placeOf, found, lowered, without, emptied}
+use Rattle.waiting.specs.Layout.{least, answersIn, ordersIn, orderAt, outcomeAt, ordersFrom, waiting, counted, full, putAt, joined, answeredAt, answeredFrom, settled, foundFrom, placeOf, found, lowered, withoutPlace, emptied}
 use Rattle.waiting.specs.Carrying.{carriedAll, outcomes}
 use Rattle.orders.specs.Checks.{lentCheck, boundsCheck, orderCheck, mustWait, wayOf}
 use Rattle.orders.specs.Results.{carried, carriedAnswer, carriedBoard, ranBoard, ranList, boardThen, listThen}
@@ -35,8 +36,7 @@ abbrev start : Desk
 start = leaves (Opens 2) (desk (driveAt 0 0) (9 ∷ 9 ∷ 7 ∷ []) (replicate 259 0))
 
 abbrev deeds : List Deed
-deeds =
-    Slots ∷ Adds 1 1 ∷ Adds 2 2 ∷ Adds 3 0 ∷ Adds 0 3 ∷ Removes 1 ∷ Fetches 1 ∷ Slots ∷ Fetches 1 ∷ Slots ∷ Fetches 1 ∷ Fetches 1
+deeds = Slots ∷ Adds 1 1 ∷ Adds 2 2 ∷ Adds 3 0 ∷ Adds 0 3 ∷ Removes 1 ∷ Fetches 1 ∷ Slots ∷ Fetches 1 ∷ Slots ∷ Fetches 1 ∷ Fetches 1
     ∷ Fetches 2 ∷ Fetches 3 ∷ Fetches 4 ∷ Fetches 0 ∷ []
 
 -- after them: an open that is refused, and one that is done
@@ -51,7 +51,7 @@ history :
     × (along leaves said (leavesAll start deeds) later
     ≡ (13 ∷ 4 ∷ []) ∷ (2 ∷ []) ∷ (13 ∷ 4 ∷ []) ∷ (0 ∷ []) ∷ (15 ∷ 0 ∷ []) ∷ (0 ∷ 0 ∷ 0 ∷ 0 ∷ 0 ∷ []) ∷ (13 ∷ 5 ∷ []) ∷ [])
     × (plain start deeds ≡ Slot ∷ Slot ∷ Add 1 1 ∷ Add 2 2 ∷ Remove 1 ∷ Slot ∷ [])
-unfolding through along actOf actsOf due openCheck addCheck removeCheck slotCheck positionCheck idleBoard uniform whole pieces weight nth single sound sum fill first fit spot put place copy move twin join pair step tidy clear leafAt nextFrom least answersIn ordersIn orderAt outcomeAt ordersFrom waiting counted full putAt joined answeredAt answeredFrom settled foundFrom placeOf found lowered without emptied carriedAll outcomes carried carriedAnswer carriedBoard ranBoard ranList lentCheck boundsCheck orderCheck mustWait wayOf boardThen listThen
+unfolding through along actOf actsOf due openCheck addCheck removeCheck slotCheck positionCheck idleBoard uniform whole pieces weight nth single sound sum fill first fit spot put place copy move twin join pair step tidy clear leafAt nextFrom least answersIn ordersIn orderAt outcomeAt ordersFrom waiting counted full putAt joined answeredAt answeredFrom settled foundFrom placeOf found lowered withoutPlace emptied carriedAll outcomes carried carriedAnswer carriedBoard ranBoard ranList lentCheck boundsCheck orderCheck mustWait wayOf boardThen listThen
 history = (refl, refl, refl)
 
 -- ---- C = 16, over the end of a round
@@ -72,6 +72,6 @@ stretch :
     (leavesAll (desk (driveAt 0 0) (replicate 16 9) (replicate 259 0)) (Opens 16 ∷ Adds 1 1 ∷ Adds 2 6 ∷ Adds 3 3 ∷ []) ≡ loaded)
     × Still loaded long
     × (namesServed loaded long ≡ round ++ take 10 round)
-    × (times 3 (inARow 8 18 (round ++ take 10 round)) ≡ 5)
-unfolding through along actOf actsOf due noneDone log openCheck addCheck removeCheck slotCheck positionCheck idleBoard uniform whole pieces weight nth single sound sum fill first fit spot put place copy move twin join pair step tidy clear leafAt nextFrom countList least answersIn ordersIn orderAt outcomeAt ordersFrom waiting counted full putAt joined answeredAt answeredFrom settled foundFrom placeOf found lowered without emptied carriedAll outcomes carried carriedAnswer carriedBoard ranBoard ranList lentCheck boundsCheck orderCheck mustWait wayOf boardThen listThen
+    × (occurrences 3 (inARow 8 18 (round ++ take 10 round)) ≡ 5)
+unfolding through along actOf actsOf due noneDone log openCheck addCheck removeCheck slotCheck positionCheck idleBoard uniform whole pieces weight nth single sound sum fill first fit spot put place copy move twin join pair step tidy clear leafAt nextFrom countList least answersIn ordersIn orderAt outcomeAt ordersFrom waiting counted full putAt joined answeredAt answeredFrom settled foundFrom placeOf found lowered withoutPlace emptied carriedAll outcomes carried carriedAnswer carriedBoard ranBoard ranList lentCheck boundsCheck orderCheck mustWait wayOf boardThen listThen
 stretch = (refl, record { whole = tested leaves restarts loaded long refl; kept = refl }, refl, refl)

@@ -10,7 +10,7 @@ mod Answering
 mod Damaging
 mod Listing
 mod Promised
-mod Keeping
+mod Held
 mod Turning
 mod Sharing
 mod TurnRounds

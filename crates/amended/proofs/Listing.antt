@@ -12,7 +12,7 @@ use Rattle.general.proofs.Laws.{clash, by-bool}
 use Rattle.calls.specs.declared.Drive.{Drive}
 use Rattle.calls.specs.declared.Check.{Check}
 use Rattle.calls.specs.declared.Check.the-variants.{Clear, Refused}
-use Rattle.calls.specs.Refusals.{numberOf, zeroOr, addCheck, removeCheck}
+use Rattle.calls.specs.Refusals.{numberOf, isClear, zeroOr, addCheck, removeCheck}
 use Rattle.calls.specs.Answers.{Answer, numberBy}
 use Rattle.calls.specs.Results.{ifClear}
 use Rattle.calls.proofs.Laws.{other-number}
@@ -30,7 +30,7 @@ use Rattle.orders.specs.Results.{addOrder, removeOrder, carriedAnswer, doing, s
 use Rattle.orders.proofs.Laws.{kept-says}
 use Rattle.amended.specs.Histories.{along}
 use Rattle.amended.specs.Carried.{inTurn}
-use Rattle.amended.specs.Deeds.{Deed, Opens, Reads, Adds, Removes, Slots, Rounds, Reports, Saves, Fetches, Refreshes, Desk, openChecks, readChecks, firstChecks, wayAt, answers, leaves, leavesAll, listAfter, isClear, ticketIn, ticketTold, ticketsTold, CountUp}
+use Rattle.amended.specs.Deeds.{Deed, Opens, Reads, Adds, Removes, Slots, Rounds, Reports, Saves, Fetches, Refreshes, Desk, openChecks, readChecks, firstChecks, wayAt, answers, leaves, leavesAll, listAfter, ticketIn, ticketTold, ticketsTold, CountUp}
 use Rattle.amended.specs.Fates.{Fate, Waits, Answered, Gone, toldOf, ran, handedOut, fateNext, fateThrough}
 use Rattle.amended.proofs.Carrying.{turn-says}
 use Rattle.amended.proofs.Sounding.{list-length}
@@ -59,8 +59,7 @@ in-order-next (Opens C) s is = check-in-order (openChecks s C) (emptied (s .list
 in-order-next (Reads form S) s is = check-in-order (readChecks s form S) (emptied (s .list)) (s .list) (empty-in-order (s .list) (is .long)) is
 in-order-next (Adds x w) s is = order-in-order (s .list) (addOrder x w) (wayAt (addOrder x w) s) is
 in-order-next (Removes x) s is = order-in-order (s .list) (removeOrder x) (wayAt (removeOrder x) s) is
-in-order-next Slots s is =
-    check-in-order (firstChecks s) (listThen (s .state .drive) (s .state .board) (s .list)) (s .list)
+in-order-next Slots s is = check-in-order (firstChecks s) (listThen (s .state .drive) (s .state .board) (s .list)) (s .list)
     (if-in-order (eqb (s .state .drive .position) 1) (s .state .drive) (s .state .board) (s .list) is) is
 in-order-next (Rounds O) s is = is
 in-order-next (Reports x) s is = is
@@ -128,8 +127,7 @@ count-next (Adds x w) s ts l c =
 count-next (Removes x) s ts l c =
     let k = wayAt (removeOrder x) s in
     way-count (answers (Removes x) s) (s .list) (removeOrder x) k l (remove-other s x k (remove-taken s x)) (λ e. rw e refl) ts c
-count-next Slots s ts l c =
-    check-count (firstChecks s) (listThen (s .state .drive) (s .state .board) (s .list)) (s .list) ts
+count-next Slots s ts l c = check-count (firstChecks s) (listThen (s .state .drive) (s .state .board) (s .list)) (s .list) ts
     (if-last (eqb (s .state .drive .position) 1) (s .state .drive) (s .state .board) (s .list) l) c
 count-next (Rounds O) s ts l c = c
 count-next (Reports x) s ts l c = c

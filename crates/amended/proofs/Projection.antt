@@ -1,20 +1,17 @@
 -- Every history of calls with the list, up to an open or a read that is done, leaves the record and the board, and serves the names, of the plain history that it
--- stands for; and what its calls answer at once is what the plain calls say.
--- Assumes nothing.
+-- stands for; and what its calls answer at once is what the plain calls say. Assumes nothing.
 use mathlib.Core.Path.{_≡_, refl, sym, ap, _∙_}
-use mathlib.Core.Bool.{true, false, cond}
+use mathlib.Core.Bool.{false, cond}
 use mathlib.Core.List.{List, [], _∷_}
 use Prim.Native.Nat.{ℕ}
-use native.Mathlib.Omega.{arith}
 use lib.Dec.{eqb}
 use lib.ListN.{length, getD}
 use Rattle.general.proofs.Laws.{by-bool}
-use Rattle.calls.specs.declared.Refusal.{Refusal}
 use Rattle.calls.specs.declared.Check.{Check}
 use Rattle.calls.specs.declared.Check.the-variants.{Clear, Refused}
 use Rattle.calls.specs.Answers.{answered}
 use Rattle.calls.specs.Results.{ifClear, movedOn, servedName, servedLeaf, servedPassed, servedRound}
-use Rattle.calls.proofs.Laws.{number-some}
+use Rattle.calls.proofs.Laws.{number-some, not-clear}
 use Rattle.demands.specs.Histories.{Add, Slot, State, does, says, after, log}
 use Rattle.demands.specs.Rounds.{names}
 use Rattle.demands.proofs.Laws.{stateAt, after-append, names-append}
@@ -25,7 +22,7 @@ use Rattle.orders.specs.declared.Way.the-variants as way
 use Rattle.orders.specs.Results.{addOrder, removeOrder, carriedBoard, ranBoard, boardBy, boardThen}
 use Rattle.orders.proofs.Laws.{then-slot}
 use Rattle.amended.specs.Carried.{actsOf}
-use Rattle.amended.specs.Deeds.{Deed, Opens, Reads, Adds, Removes, Slots, Rounds, Reports, Saves, Fetches, Refreshes, Desk, openChecks, readChecks, firstChecks, wayAt, answers, leaves, leavesAll, isClear, restarts, Unbroken, due, madeBy, servedBy, standsFor, plain, nameServed}
+use Rattle.amended.specs.Deeds.{Deed, Opens, Reads, Adds, Removes, Slots, Rounds, Reports, Saves, Fetches, Refreshes, Desk, openChecks, readChecks, firstChecks, wayAt, answers, leaves, leavesAll, restarts, Unbroken, due, madeBy, slotBy, standsFor, plain, nameServed}
 use Rattle.amended.proofs.Carrying.{carry-one, carry-all, act-names, acts-names, add-says}
 use Rattle.amended.proofs.Projecting as projecting
 
@@ -49,7 +46,7 @@ order-same s o way.Now = sym (carry-one (s .drive) (s .board) o)
 
 slot-same : (s : Desk) (k : Check) → firstChecks s ≡ k
     → stateAt (ifClear k (movedOn (s .state .drive)) (s .state .drive)) (ifClear k (boardThen (s .state .drive) (s .state .board) (s .list)) (s .state .board))
-    ≡ after (s .state) (servedBy k (actsOf (due s)))
+    ≡ after (s .state) (slotBy k (actsOf (due s)))
 unfolding after
 slot-same s (Refused r) e = refl
 slot-same s Clear e =
@@ -57,15 +54,6 @@ slot-same s Clear e =
     sym (after-append (s .state) (actsOf (due s)) (Slot ∷ [])
     ∙ ap (λ (t : State). does Slot t) (due-state s)
     ∙ rw c refl)
-
--- checks that are not clear found a refusal, and checks that are clear none
-pub not-clear : (k : Check) → isClear k ≡ false → (r : Refusal) × (k ≡ Refused r)
-not-clear Clear e = let z : _≡_ {A = ℕ} 0 1 = cc in absurd (omega arith)
-not-clear (Refused r) e = (r, refl)
-
-pub is-clear : (k : Check) → isClear k ≡ true → k ≡ Clear
-is-clear Clear e = refl
-is-clear (Refused r) e = let z : _≡_ {A = ℕ} 0 1 = cc in absurd (omega arith)
 
 pub projected-one : (a : Deed) (s : Desk) → restarts a s ≡ false → leaves a s .state ≡ after (s .state) (standsFor a s)
 unfolding after
@@ -96,7 +84,7 @@ order-names s o way.Now = sym (act-names s o)
 slot-names : (s : Desk) (k : Check) → firstChecks s ≡ k
     → cond (eqb (answered k (servedName (s .state .drive) (ranState s .board) ∷ servedLeaf (s .state .drive) ∷ servedPassed (s .state .drive) ∷ servedRound (s .state .drive) ∷ []) .number) 0)
     (getD (answered k (servedName (s .state .drive) (ranState s .board) ∷ servedLeaf (s .state .drive) ∷ servedPassed (s .state .drive) ∷ servedRound (s .state .drive) ∷ []) .values) 0 0 ∷ []) []
-    ≡ names (log (s .state) (servedBy k (actsOf (due s))))
+    ≡ names (log (s .state) (slotBy k (actsOf (due s))))
 unfolding names log
 slot-names s (Refused r) e = rw (number-some r) refl
 slot-names s Clear e =

@@ -1,19 +1,15 @@
--- A call with the list that keeps its promise says, returns and leaves what the histories take it to.
--- Assumes nothing.
+-- A call with the list that keeps its promise says, returns and leaves what the histories take it to. Assumes nothing.
 use mathlib.Core.Path.{_≡_, ap}
 use mathlib.Core.List.{List}
 use Prim.Native.Nat.{ℕ}
 use Rattle.calls.specs.declared.Drive.{Drive}
-use Rattle.calls.specs.declared.Opened.{Opened}
+use Rattle.calls.specs.declared.Checked.{Checked}
 use Rattle.calls.specs.declared.Served.{Served}
-use Rattle.calls.specs.declared.Rounded.{Rounded}
-use Rattle.calls.specs.declared.Refreshed.{Refreshed}
 use Rattle.calls.specs.declared.Reported.{Reported}
-use Rattle.calls.specs.Answers.{openingAnswer, servingAnswer, roundingAnswer, refreshingAnswer, reportAnswer}
+use Rattle.calls.specs.Answers.{checkAnswer, servingAnswer, reportAnswer}
 use Rattle.calls.specs.Promises.{Rounds, Reports, Refreshes}
 use Rattle.sheets.specs.declared.Saved.{Saved}
-use Rattle.sheets.specs.declared.Loaded.{Loaded}
-use Rattle.sheets.specs.Results.{savingAnswer, loadingAnswer}
+use Rattle.sheets.specs.Results.{savingAnswer}
 use Rattle.sheets.specs.Promises.{Saves, SavesPieces}
 use Rattle.waiting.specs.declared.Fetching.{Fetching}
 use Rattle.waiting.specs.Promises.{Fetches}
@@ -30,17 +26,17 @@ abbrev pub Kept : Deed → Desk → Drive → List ℕ → List ℕ → Type 0
 Kept a s d E F = (d ≡ returned a s) × (E ≡ boardAfter a s) × (F ≡ listAfter a s)
 
 module _ (d : Drive) (B L : List ℕ) where
-  pub open-kept : (C : ℕ) {r : Opened} {E F : List ℕ} → Opens C B L r E F
-      → (openingAnswer (r .answer) ≡ answers (deeds.Opens C) (desk d B L)) × Kept (deeds.Opens C) (desk d B L) (r .drive) E F
-  open-kept C p = (p .1, (ap (λ (r : Opened). r .drive) (p .0), p .2, p .3))
+  pub open-kept : (C : ℕ) {r : Checked} {E F : List ℕ} → Opens C B L r E F
+      → (checkAnswer (r .answer) ≡ answers (deeds.Opens C) (desk d B L)) × Kept (deeds.Opens C) (desk d B L) (r .drive) E F
+  open-kept C p = (p .1, (ap (λ (r : Checked). r .drive) (p .0), p .2, p .3))
 
-  pub read-kept : (S : List ℕ) {r : Loaded} {E F : List ℕ} → Loads S B L r E F
-      → (loadingAnswer (r .answer) ≡ answers (deeds.Reads Leaves S) (desk d B L)) × Kept (deeds.Reads Leaves S) (desk d B L) (r .drive) E F
-  read-kept S p = (p .1, (ap (λ (r : Loaded). r .drive) (p .0), p .2, p .3))
+  pub read-kept : (S : List ℕ) {r : Checked} {E F : List ℕ} → Loads S B L r E F
+      → (checkAnswer (r .answer) ≡ answers (deeds.Reads Leaves S) (desk d B L)) × Kept (deeds.Reads Leaves S) (desk d B L) (r .drive) E F
+  read-kept S p = (p .1, (ap (λ (r : Checked). r .drive) (p .0), p .2, p .3))
 
-  pub read-pieces-kept : (S : List ℕ) {r : Loaded} {E F : List ℕ} → LoadsPieces S B L r E F
-      → (loadingAnswer (r .answer) ≡ answers (deeds.Reads Pieces S) (desk d B L)) × Kept (deeds.Reads Pieces S) (desk d B L) (r .drive) E F
-  read-pieces-kept S p = (p .1, (ap (λ (r : Loaded). r .drive) (p .0), p .2, p .3))
+  pub read-pieces-kept : (S : List ℕ) {r : Checked} {E F : List ℕ} → LoadsPieces S B L r E F
+      → (checkAnswer (r .answer) ≡ answers (deeds.Reads Pieces S) (desk d B L)) × Kept (deeds.Reads Pieces S) (desk d B L) (r .drive) E F
+  read-pieces-kept S p = (p .1, (ap (λ (r : Checked). r .drive) (p .0), p .2, p .3))
 
   pub add-kept : (x w : ℕ) {r : Ordered} {E F : List ℕ} → Orders d B L (addOrder x w) r E F
       → (orderingAnswer (r .answer) ≡ answers (deeds.Adds x w) (desk d B L)) × Kept (deeds.Adds x w) (desk d B L) (r .drive) E F
@@ -54,9 +50,9 @@ module _ (d : Drive) (B L : List ℕ) where
       → (servingAnswer (r .answer) ≡ answers deeds.Slots (desk d B L)) × Kept deeds.Slots (desk d B L) (r .drive) E F
   slot-kept p = (p .1, (ap (λ (r : Served). r .drive) (p .0), p .2, p .3))
 
-  pub round-kept : (O : List ℕ) {r : Rounded} {E : List ℕ} → Rounds d B O r E
-      → (roundingAnswer (r .answer) ≡ answers (deeds.Rounds O) (desk d B L)) × (r .drive ≡ returned (deeds.Rounds O) (desk d B L)) × (E ≡ writes (deeds.Rounds O) (desk d B L))
-  round-kept O p = (p .1, ap (λ (r : Rounded). r .drive) (p .0), p .2)
+  pub round-kept : (O : List ℕ) {r : Checked} {E : List ℕ} → Rounds d B O r E
+      → (checkAnswer (r .answer) ≡ answers (deeds.Rounds O) (desk d B L)) × (r .drive ≡ returned (deeds.Rounds O) (desk d B L)) × (E ≡ writes (deeds.Rounds O) (desk d B L))
+  round-kept O p = (p .1, ap (λ (r : Checked). r .drive) (p .0), p .2)
 
   pub report-kept : (x : ℕ) {r : Reported} → Reports d B x r
       → (reportAnswer (r .answer) ≡ answers (deeds.Reports x) (desk d B L)) × (r .drive ≡ returned (deeds.Reports x) (desk d B L))
@@ -76,6 +72,6 @@ module _ (d : Drive) (B L : List ℕ) where
       → (fetchingAnswer r ≡ answers (deeds.Fetches t) (desk d B L)) × (F ≡ listAfter (deeds.Fetches t) (desk d B L))
   fetch-kept t p = (ap fetchingAnswer (p .0), p .1)
 
-  pub fresh-kept : {r : Refreshed} {E : List ℕ} → Refreshes d B r E
-      → (refreshingAnswer (r .answer) ≡ answers deeds.Refreshes (desk d B L)) × (r .drive ≡ returned deeds.Refreshes (desk d B L)) × (E ≡ boardAfter deeds.Refreshes (desk d B L))
-  fresh-kept p = (p .1, ap (λ (r : Refreshed). r .drive) (p .0), p .2)
+  pub fresh-kept : {r : Checked} {E : List ℕ} → Refreshes d B r E
+      → (checkAnswer (r .answer) ≡ answers deeds.Refreshes (desk d B L)) × (r .drive ≡ returned deeds.Refreshes (desk d B L)) × (E ≡ boardAfter deeds.Refreshes (desk d B L))
+  fresh-kept p = (p .1, ap (λ (r : Checked). r .drive) (p .0), p .2)

@@ -1,5 +1,4 @@
--- Full rounds of calls with the list: C slots make one, and it serves what a plain round serves on the board that the list has left.
--- Assumes nothing.
+-- Full rounds of calls with the list: C slots make one, and it serves what a plain round serves on the board that the list has left. Assumes nothing.
 use mathlib.Core.Path.{_≡_, refl, sym, ap, subst, _∙_}
 use mathlib.Core.Bool.{false}
 use mathlib.Core.List.{List, [], _∷_, _++_}
@@ -9,14 +8,14 @@ use lib.ListN.{length, replicate}
 use Rattle.calls.specs.declared.Check.{Check}
 use Rattle.calls.specs.declared.Check.the-variants.{Clear}
 use Rattle.demands.specs.Histories.{Act, Slot, State}
-use Rattle.demands.specs.Holdings.{Stream}
+use Rattle.pieces.specs.Streams.{Stream}
 use Rattle.demands.specs.Rounds.{namesFrom}
 use Rattle.demands.specs.Rounds as rounds
 use Rattle.demands.proofs.Laws.{Sound, reached, slot-clear}
 use Rattle.orders.proofs.Laws.{bounds-clear}
 use Rattle.amended.specs.Histories.{Each}
 use Rattle.amended.specs.Carried.{actsOf}
-use Rattle.amended.specs.Deeds.{Deed, Slots, Desk, firstChecks, answers, leaves, restarts, Unbroken, due, servedBy, standsFor, plain, nameServed, namesServed, FullRound}
+use Rattle.amended.specs.Deeds.{Deed, Slots, Desk, firstChecks, answers, leaves, restarts, Unbroken, due, slotBy, standsFor, plain, nameServed, namesServed, FullRound}
 use Rattle.amended.specs.Holding.{heldNext, heldThen}
 use Rattle.amended.proofs.Carrying.{acts-names}
 use Rattle.amended.proofs.Projection.{ranState, due-state, projected-one, names-one}
@@ -51,7 +50,7 @@ slots-full hs s is first =
 
 -- ---- a full round is a plain full round from where the list has run
 
-pub clear-served : (k : Check) (before : List Act) → k ≡ Clear → servedBy k before ≡ before ++ (Slot ∷ [])
+pub clear-served : (k : Check) (before : List Act) → k ≡ Clear → slotBy k before ≡ before ++ (Slot ∷ [])
 clear-served k before e = rw e refl
 
 module _ (hs : List Stream) (s : Desk) (is : Standing hs s) (rest : List Deed) where
@@ -62,8 +61,7 @@ module _ (hs : List Stream) (s : Desk) (is : Standing hs s) (rest : List Deed) w
   -- a slot and the calls that follow serve what plain calls serve from where the list has run
   pub first-names : Unbroken (leaves Slots s) rest → namesServed s (Slots ∷ rest) ≡ namesFrom (ranState s) (plain (leaves Slots s) rest)
   unfolding Each
-  first-names whole =
-      projecting.names-from-slot leaves (λ t. t .state) standsFor (λ a t. restarts a t ≡ false) projected-one
+  first-names whole = projecting.names-from-slot leaves (λ t. t .state) standsFor (λ a t. restarts a t ≡ false) projected-one
       Slots s rest (actsOf (due s)) (clear-served (firstChecks s) (actsOf (due s)) (first-clear hs s is)) (refl, whole)
       nameServed names-one (acts-names (s .state) (due s))
       ∙ rw (due-state s) refl

@@ -15,8 +15,10 @@ use Rattle.calls.specs.declared.Check.{Check}
 use Rattle.calls.specs.declared.Check.the-variants.{Clear, Refused}
 use Rattle.calls.specs.Results.{ifClear}
 use Rattle.calls.specs.Answers.{Answer}
+use Rattle.calls.proofs.Laws.{is-clear, either-length}
 use Rattle.demands.specs.Histories.{Act, Add, Remove, Slot, Round, Report, Fresh, State, says, after, log}
-use Rattle.demands.specs.Holdings.{Stream, changed, heldFrom}
+use Rattle.pieces.specs.Streams.{Stream}
+use Rattle.demands.specs.Holdings.{heldAfter, heldFrom}
 use Rattle.demands.proofs.Laws.{stateAt, Sound, reached, moves, same-either, held-append}
 use Rattle.waiting.specs.declared.Order.{Order}
 use Rattle.waiting.specs.Layout.{tooShort}
@@ -24,7 +26,7 @@ use Rattle.orders.specs.Results.{addOrder, removeOrder, carriedAnswer, carriedB
 use Rattle.drives.specs.Checks.{bothStart}
 use Rattle.drives.specs.Results.{listThen}
 use Rattle.drives.proofs.Laws.{pair-clear, pair-vouch, answer-alike, board-alike}
-use Rattle.amended.specs.Histories.{along, following, Each}
+use Rattle.amended.specs.Histories.{following}
 use Rattle.amended.specs.Carried.{actOf, actsOf}
 use Rattle.amended.specs.Deeds as one
 use Rattle.amended.specs.Deeds.{Deed, Opens, Reads, Adds, Removes, Slots, Rounds, Reports, Saves, Fetches, Refreshes, openChecks, readChecks}
@@ -33,15 +35,14 @@ use Rattle.amended.specs.Holding.{onLeaves, onBoard}
 use Rattle.amended.specs.Turns.{Pair, exchanged, seen, shown, firstChecks, lookChecks, wayAt, listAfter, leavesOwn, Turn, Own, Other, leaves, leavesAll, turnedAll, restarts, Unbroken, carriesOut, laysOut, shared, alone, standsFor, plain}
 use Rattle.amended.specs.Sharing.{heldOwn, heldNext, heldThrough, Ready}
 use Rattle.amended.proofs.Carrying.{carry-one}
-use Rattle.amended.proofs.Projection.{is-clear}
 use Rattle.amended.proofs.Projecting as projecting
-use Rattle.amended.proofs.Sounding.{ready-sound, by-way, by-check, if-length, restart-ready}
+use Rattle.amended.proofs.Sounding.{ready-sound, by-way, if-length, restart-ready}
 use Rattle.amended.proofs.Sounding as sounding
 use Rattle.amended.proofs.Turning.{carries-alike, projected-one}
 
 -- ---- the acts of one drive alone change nothing that is held
 
-look-held : (hs : List Stream) (u : State) (x : Act) (k : Check) → changed x hs ≡ hs → heldFrom hs (log u (ifClear k (x ∷ []) [])) ≡ hs
+look-held : (hs : List Stream) (u : State) (x : Act) (k : Check) → heldAfter x hs ≡ hs → heldFrom hs (log u (ifClear k (x ∷ []) [])) ≡ hs
 unfolding heldFrom log
 look-held hs u x Clear e = rw e (same-either (eqb (says x u .number) 0) hs)
 look-held hs u x (Refused r) e = refl
@@ -67,7 +68,7 @@ none-held B hs a b = refl
 
 -- what an order changes of what is held hangs on its answer
 abbrev heldBy : Answer → Order → List Stream → List Stream
-heldBy a o hs = cond (eqb (a .number) 0) (cond (eqb (o .kind) 1) (changed (Add (o .name) (o .weight)) hs) (changed (Remove (o .name)) hs)) hs
+heldBy a o hs = cond (eqb (a .number) 0) (cond (eqb (o .kind) 1) (heldAfter (Add (o .name) (o .weight)) hs) (heldAfter (Remove (o .name)) hs)) hs
 
 order-held : (d : Drive) (B : List ℕ) (hs : List Stream) (o : Order) → heldFrom hs (log (stateAt d B) (actOf o)) ≡ heldBy (carriedAnswer d B o) o hs
 unfolding heldFrom log actOf carriedAnswer
@@ -82,15 +83,14 @@ module _ (a b : Drive) (ec : a .capacity ≡ b .capacity) (ep : a .position ≡ 
   pub held-alike : (B : List ℕ) (hs : List Stream) (os : List Order) → heldFrom hs (log (stateAt a B) (actsOf os)) ≡ heldFrom hs (log (stateAt b B) (actsOf os))
   unfolding actsOf
   held-alike B hs [] = none-held B hs a b
-  held-alike B hs (o ∷ os) =
-      rw (
-        held-append hs (stateAt a B) (actOf o) (actsOf os),
-        held-append hs (stateAt b B) (actOf o) (actsOf os),
-        carry-one a B o,
-        carry-one b B o,
-        one-held hs B o,
-        board-alike a b ec ep B o,
-      ) (held-alike (carriedBoard b B o) (heldFrom hs (log (stateAt b B) (actOf o))) os)
+  held-alike B hs (o ∷ os) = rw (
+    held-append hs (stateAt a B) (actOf o) (actsOf os),
+    held-append hs (stateAt b B) (actOf o) (actsOf os),
+    carry-one a B o,
+    carry-one b B o,
+    one-held hs B o,
+    board-alike a b ec ep B o,
+  ) (held-alike (carriedBoard b B o) (heldFrom hs (log (stateAt b B) (actOf o))) os)
 
 pub carries-held : (hs : List Stream) (a : Deed) (s : Pair)
     → heldFrom hs (log (shown s) (actsOf (carriesOut a s))) ≡ heldFrom hs (log (shown (exchanged s)) (actsOf (carriesOut a s)))
@@ -112,8 +112,7 @@ fresh-held hs s = by-bool (laysOut Refreshes s) (λ t. rw t (same-either (eqb (s
 -- ---- what is held is what either drive's plain history holds
 
 own-held : (hs : List Stream) (a : Deed) (s : Pair) → heldFrom hs (log (shown s) (standsFor (Own a) s)) ≡ heldFrom hs (log (shown s) (shared a s))
-own-held hs a s =
-    held-append hs (shown s) (shared a s) (alone a s)
+own-held hs a s = held-append hs (shown s) (shared a s) (alone a s)
     ∙ alone-held (heldFrom hs (log (shown s) (shared a s))) (after (shown s) (shared a s)) a s
 
 held-one : (hs : List Stream) (t : Turn) (s : Pair) → restarts t s ≡ false → heldNext hs t s ≡ heldFrom hs (log (shown s) (standsFor t s))
@@ -121,12 +120,7 @@ held-one hs (Own a) s e = rw e (sym (own-held hs a s))
 held-one hs (Other a) s e = rw e (shared-held hs a (exchanged s))
 
 pub held-plain : (hs : List Stream) (s : Pair) (turns : List Turn) → Unbroken s turns → heldThrough hs s turns ≡ heldFrom hs (log (shown s) (plain s turns))
-unfolding following along Each heldFrom log
-held-plain hs s [] ok = refl
-held-plain hs s (t ∷ rest) ok =
-    held-plain (heldNext hs t s) (leaves t s) rest (ok .1)
-    ∙ rw (projected-one t s (ok .0), held-one hs t s (ok .0)) refl
-    ∙ sym (held-append hs (shown s) (standsFor t s) (plain (leaves t s) rest))
+held-plain = projecting.held-projected leaves shown standsFor (λ t s. restarts t s ≡ false) projected-one heldNext held-one
 
 -- and the other drive sees the same held.
 pub held-turned : (hs : List Stream) (s : Pair) (turns : List Turn) → heldThrough hs (exchanged s) (turnedAll turns) ≡ heldThrough hs s turns
@@ -143,7 +137,7 @@ list-length (Opens C) s = sounding.list-length (Opens C) (seen s)
 list-length (Reads form S) s = sounding.list-length (Reads form S) (seen s)
 list-length (Adds x w) s = by-way (s .list) (addOrder x w) (wayAt (addOrder x w) s)
 list-length (Removes x) s = by-way (s .list) (removeOrder x) (wayAt (removeOrder x) s)
-list-length Slots s = by-check (firstChecks s) (listThen (s .own) (s .other) (s .board) (s .list)) (s .list) (if-length (bothStart (s .own) (s .other)) (s .own) (s .board) (s .list))
+list-length Slots s = either-length (firstChecks s) (listThen (s .own) (s .other) (s .board) (s .list)) (s .list) (if-length (bothStart (s .own) (s .other)) (s .own) (s .board) (s .list))
 list-length (Rounds O) s = refl
 list-length (Reports x) s = refl
 list-length (Saves form O) s = refl

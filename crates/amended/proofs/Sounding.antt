@@ -9,21 +9,18 @@ use lib.Dec.{eqb}
 use lib.ListN.{length, getD, drop}
 use borrow.Author.Tests.{ne-eqb, eqb-true}
 use Rattle.general.proofs.Laws.{by-bool}
-use Rattle.sequences.proofs.Laws.{first-position}
 use Rattle.pieces.specs.Board.{weight}
 use Rattle.calls.specs.declared.Drive.{Drive}
-use Rattle.calls.specs.declared.Check.{Check}
 use Rattle.calls.specs.declared.Check.the-variants.{Clear, Refused}
 use Rattle.calls.specs.Records.{driveAt}
-use Rattle.calls.specs.Results.{ifClear, idleBoard}
-use Rattle.calls.specs.Refusals.{slotCheck}
-use Rattle.calls.proofs.Laws.{Sized, open-clear, open-sized, slot-parts}
+use Rattle.calls.specs.Results.{idleBoard}
+use Rattle.calls.proofs.Laws.{is-clear, open-clear, open-sized, slot-parts, either-length, slot-first}
 use Rattle.sheets.specs.Sheet.{capacityIn, sheetLeaves}
-use Rattle.sheets.specs.Results as sheets
 use Rattle.sheets.specs.Entries.{positionIn, spelled}
 use Rattle.sheets.proofs.Laws.{read-sized, read-good, read-pieces-sized, read-pieces-good, read-pieces-position}
 use Rattle.demands.specs.Histories.{State, log}
-use Rattle.demands.specs.Holdings.{Stream, heldFrom, heldOf, total}
+use Rattle.pieces.specs.Streams.{Stream, heldOf, total}
+use Rattle.demands.specs.Holdings.{heldFrom}
 use Rattle.demands.proofs.Laws.{stateAt, Sound, opened, reached, slot-clear, clear-valid}
 use Rattle.waiting.specs.declared.Order.{Order}
 use Rattle.waiting.specs.Layout.{waiting, takenList, emptied}
@@ -35,7 +32,7 @@ use Rattle.orders.specs.Results.{addOrder, removeOrder, doing, saying, listBy, 
 use Rattle.orders.proofs.Laws.{lent-open, read-accepts, read-pieces-accepts}
 use Rattle.amended.specs.Deeds.{Sheets, Leaves, Pieces, Deed, Opens, Reads, Adds, Removes, Slots, Rounds, Reports, Saves, Fetches, Refreshes, Desk, openChecks, readChecks, firstChecks, wayAt, leaves, leavesAll, listAfter, restarts, standsFor}
 use Rattle.amended.specs.Holding.{onLeaves, onBoard, heldNext, heldThrough, Ready}
-use Rattle.amended.proofs.Projection.{is-clear, projected-one}
+use Rattle.amended.proofs.Projection.{projected-one}
 use Rattle.amended.proofs.Projecting as projecting
 
 -- ---- the streams of a board, leaf by leaf
@@ -81,10 +78,6 @@ by-way L o (way.Refused r) = refl
 by-way L o way.Wait = take-length L o
 by-way L o way.Now = refl
 
-pub by-check : (k : Check) (F L : List ℕ) → length F ≡ length L → length (ifClear k F L) ≡ length L
-by-check Clear F L e = e
-by-check (Refused r) F L e = refl
-
 pub if-length : (begins : Bool) (d : Drive) (B L : List ℕ) → length (listIf begins d B L) ≡ length L
 unfolding ranList
 if-length true d B L = run-length L (outcomes (doing d) (saying d) B (waiting L))
@@ -92,11 +85,11 @@ if-length false d B L = refl
 
 pub list-length : (a : Deed) (s : Desk) → length (listAfter a s) ≡ length (s .list)
 unfolding listThen
-list-length (Opens C) s = by-check (openChecks s C) (emptied (s .list)) (s .list) (empty-length (s .list))
-list-length (Reads form S) s = by-check (readChecks s form S) (emptied (s .list)) (s .list) (empty-length (s .list))
+list-length (Opens C) s = either-length (openChecks s C) (emptied (s .list)) (s .list) (empty-length (s .list))
+list-length (Reads form S) s = either-length (readChecks s form S) (emptied (s .list)) (s .list) (empty-length (s .list))
 list-length (Adds x w) s = by-way (s .list) (addOrder x w) (wayAt (addOrder x w) s)
 list-length (Removes x) s = by-way (s .list) (removeOrder x) (wayAt (removeOrder x) s)
-list-length Slots s = by-check (firstChecks s) (listThen (s .state .drive) (s .state .board) (s .list)) (s .list) (if-length (eqb (s .state .drive .position) 1) (s .state .drive) (s .state .board) (s .list))
+list-length Slots s = either-length (firstChecks s) (listThen (s .state .drive) (s .state .board) (s .list)) (s .list) (if-length (eqb (s .state .drive .position) 1) (s .state .drive) (s .state .board) (s .list))
 list-length (Rounds O) s = refl
 list-length (Reports x) s = refl
 list-length (Saves form O) s = refl
@@ -104,9 +97,6 @@ list-length Refreshes s = refl
 list-length (Fetches t) s = fetch-length (s .list) t
 
 -- ---- an open or a read that is done leaves a desk to begin with
-
-slot-first : (C : ℕ) (B : List ℕ) → Sized C B → slotCheck (driveAt C 1) B ≡ Clear
-slot-first C B is = slot-clear (stateAt (driveAt C 1) B) (record { at = first-position C (is .some) (let f = is .few in omega arith); long = is .long })
 
 opened-ready : (s : Desk) (C : ℕ) → 259 ≤ length (s .list) → openChecks s C ≡ Clear → Ready (leaves (Opens C) s)
 opened-ready s C l e =

@@ -7,7 +7,7 @@ use lib.Dec.{eqb}
 use lib.ListN.{length, replicate}
 use Rattle.general.proofs.Laws.{by-bool}
 use Rattle.demands.specs.Histories.{Act, Slot}
-use Rattle.demands.specs.Holdings.{Stream}
+use Rattle.pieces.specs.Streams.{Stream}
 use Rattle.demands.specs.Stretches.{PowerOfTwo, PowerFair, StillFair}
 use Rattle.waiting.specs.Layout.{waiting}
 use Rattle.waiting.proofs.Laws.{none-waits}
@@ -70,13 +70,11 @@ module _ (hs : List Stream) (s : Desk) (is : Standing hs s) (rest : List Deed) w
   -- from a slot on that carries out what waits before it is picked
   module _ (still : Still (leaves Slots s) rest) where
     pub power-then : PowerOfTwo (s .state .drive .capacity) → PowerFair (s .state .drive .capacity) (ranState s .board) (heldThen hs s) (namesServed s (Slots ∷ rest))
-    power-then =
-        stretching.power-then leaves (λ t. t .state) standsFor restarts projected-one nameServed names-one (heldThen hs s) s rest
+    power-then = stretching.power-then leaves (λ t. t .state) standsFor restarts projected-one nameServed names-one (heldThen hs s) s rest
         Slots (actsOf (due s)) (clear-served (firstChecks s) (actsOf (due s)) (first-clear hs s is)) refl
         (acts-names (s .state) (due s)) (ranState s) (due-state s) (ran-sound hs s is) still
 
     pub fair-then : StillFair (s .state .drive .capacity) (heldThen hs s) (namesServed s (Slots ∷ rest))
-    fair-then =
-        stretching.fair-then leaves (λ t. t .state) standsFor restarts projected-one nameServed names-one (heldThen hs s) s rest
+    fair-then = stretching.fair-then leaves (λ t. t .state) standsFor restarts projected-one nameServed names-one (heldThen hs s) s rest
         Slots (actsOf (due s)) (clear-served (firstChecks s) (actsOf (due s)) (first-clear hs s is)) refl
         (acts-names (s .state) (due s)) (ranState s) (due-state s) (ran-sound hs s is) still

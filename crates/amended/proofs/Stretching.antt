@@ -1,13 +1,12 @@
 -- Any set of calls that does, call by call, what plain calls do: where nothing is changed, its slots serve what plain slots serve over any number of rounds, and so a
--- stream its share.
--- Assumes nothing.
+-- stream its share. Assumes nothing.
 use mathlib.Core.Path.{_≡_, refl, sym, ap, subst, _∙_}
 use mathlib.Core.Bool.{Bool, false}
 use mathlib.Core.List.{List, [], _∷_, _++_}
 use Prim.Native.Nat.{ℕ, zero, suc}
 use lib.ListN.{length, getD, drop, replicate}
 use Rattle.demands.specs.Histories.{Act, Slot, State, does as plainly, after, log}
-use Rattle.demands.specs.Holdings.{Stream}
+use Rattle.pieces.specs.Streams.{Stream}
 use Rattle.demands.specs.Rounds.{names, namesFrom}
 use Rattle.demands.specs.Stretches.{noneDone, PowerOfTwo, PowerFair, StillFair}
 use Rattle.demands.specs.Stretches as stretches

@@ -1,6 +1,5 @@
 -- What the calls for two drives answer: only the numbers of their lists; refused, nothing is changed; and on a good board none answers DAMAGED. A call of the own
--- drive; for the other's the records are exchanged.
--- Assumes nothing.
+-- drive; for the other's the records are exchanged. Assumes nothing.
 use mathlib.Core.Path.{_≡_, refl, ap}
 use mathlib.Core.Bool.{true, false, not}
 use mathlib.Core.List.{List, [], _∷_, _++_}
@@ -9,7 +8,7 @@ use native.Mathlib.Omega.{arith}
 use lib.Dec.{eqb}
 use lib.ListN.{length, drop}
 use Rattle.general.proofs.Laws.{clash, by-bool}
-use Rattle.pieces.specs.Board.{weight, number}
+use Rattle.pieces.specs.Board.{weight, pieceCount}
 use Rattle.pieces.specs.Fresh.{fresh}
 use Rattle.calls.specs.Refusals.{zeroOr, among, firstOf, askedOutput}
 use Rattle.calls.specs.Answers.{numberBy}
@@ -18,7 +17,7 @@ use Rattle.calls.proofs.Laws.{Within, covers, part-within}
 use Rattle.sheets.specs.Forms.{sizeOf, savingCheck}
 use Rattle.sheets.specs.Results.{leafForm, pieceForm}
 use Rattle.demands.specs.Histories.{Round, Report, Fresh}
-use Rattle.demands.specs.Holdings.{Stream}
+use Rattle.pieces.specs.Streams.{Stream}
 use Rattle.demands.proofs.Laws.{never-damaged}
 use Rattle.waiting.specs.declared.Order.{Order}
 use Rattle.waiting.specs.Layout.{tooShort}
@@ -26,12 +25,12 @@ use Rattle.orders.specs.Checks.{orderCheck, waitsIf}
 use Rattle.orders.specs.Results.{addOrder, removeOrder}
 use Rattle.drives.specs.Checks.{bothStart, wayOf, startCheck, pairRoundCheck, pairReportCheck, pairSaveCheck, levelCheck, pairPiecesCheck, pairFreshCheck}
 use Rattle.drives.specs.Results.{boardThen, listThen}
-use Rattle.drives.proofs.Laws.{pair-within, now-both, slot-answers, round-answers, report-answers, save-answers, save-pieces-answers, fresh-answers}
+use Rattle.drives.proofs.Laws.{pair-within, now-both, slot-answers, round-answers, report-answers, save-answers, save-pieces-answers, fresh-answers, remove-order}
 use Rattle.amended.specs.Deeds.{Sheets, Leaves, Pieces, formOf, Deed, Opens, Reads, Adds, Removes, Slots, Rounds, Reports, Saves, Fetches, Refreshes}
 use Rattle.amended.specs.Refusing.{ofBoard}
 use Rattle.amended.specs.Turns.{Pair, seen, shown, firstChecks, saveChecks, freshChecks, wayAt, answersOwn}
 use Rattle.amended.specs.Sharing.{isDone, Refused}
-use Rattle.amended.proofs.Answering.{TakenBy, firsts, removeFirsts, lent-within, order-within, remove-order-within, way-within, add-refused, remove-refused, slot-refused, round-refused, report-refused, save-refused, fresh-refused, demand-1-amended}
+use Rattle.amended.proofs.Answering.{TakenBy, firsts, removeFirsts, lent-within, order-within, way-within, add-refused, remove-refused, slot-refused, round-refused, report-refused, save-refused, fresh-refused, demand-1-amended}
 use Rattle.amended.proofs.Damaging.{fines, not-five, fine-within, save-not, add-not, remove-not}
 use Rattle.amended.proofs.Sharing.{Standing}
 use Rattle.amended.proofs.TurnRounds.{look-clear, slot-served}
@@ -61,7 +60,7 @@ module _ (s : Pair) where
 
   pub remove-taken : (x : ℕ) → TakenBy removeFirsts (s .own) (wayAt (removeOrder x) s)
   unfolding covers zeroOr
-  remove-taken x = pair-taken removeFirsts (removeOrder x) refl (part-within removeFirsts (5 ∷ 6 ∷ []) (orderCheck C B (removeOrder x)) refl (remove-order-within C B x))
+  remove-taken x = pair-taken removeFirsts (removeOrder x) refl (part-within removeFirsts (5 ∷ 6 ∷ []) (orderCheck C B (removeOrder x)) refl (remove-order C B x))
 
 -- ---- demand 1
 
@@ -85,7 +84,7 @@ demand-1-two (Rounds O) s h =
     round-refused (seen s) O (roundNames C (s .board) ++ drop C O) (pairRoundCheck (s .own) (s .other) (s .board) (length O)) (round-answers (s .own) (s .other) (s .board) O) h
 demand-1-two (Reports x) s h =
     let C = s .own .capacity in
-    report-refused (seen s) x (weight C (s .board) x) (number C (s .board) x) (reportedSpacing (s .own) (s .board) x) (pairReportCheck (s .own) (s .other) (s .board) x)
+    report-refused (seen s) x (weight C (s .board) x) (pieceCount C (s .board) x) (reportedSpacing (s .own) (s .board) x) (pairReportCheck (s .own) (s .other) (s .board) x)
     (report-answers (s .own) (s .other) (s .board) x) h
 demand-1-two (Saves form O) s h =
     let F = formOf form in

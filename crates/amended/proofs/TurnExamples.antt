@@ -1,12 +1,11 @@
 -- Histories of two drives, computed. C = 2: an order of the drive that is at the start of a round waits while the other is not there, a slot there does not run
 -- it, and the other drive's slot that finds both there does. C = 3: drives that run out of step, where an order waits for ever. C = 4: what they then
--- serve.
--- Assumes nothing.
+-- serve. Assumes nothing.
 use mathlib.Core.Path.{_≡_, refl}
 use mathlib.Core.List.{List, [], _∷_, _++_}
 use Prim.Native.Nat.{ℕ, zero, suc}
 use lib.ListN.{replicate}
-use Rattle.sequences.specs.Board.{digits, leafAt, nextFrom}
+use Rattle.sequences.specs.SlotOrder.{digits, leafAt, nextFrom}
 use Rattle.pieces.specs.Board.{uniform, whole, pieces, weight, nth, single, sound, sum}
 use Rattle.pieces.specs.Placing.{fill, first, fit, spot, put, place}
 use Rattle.pieces.specs.Tidying.{copy, move, twin, join, pair, step, tidy, clear}
@@ -15,7 +14,7 @@ use Rattle.calls.specs.Refusals.{applies, openCheck, addCheck, removeCheck, slo
 use Rattle.calls.specs.Results.{idleBoard}
 use Rattle.demands.specs.Histories.{Add, Slot, log}
 use Rattle.demands.specs.Stretches.{noneDone}
-use Rattle.waiting.specs.Layout.{least, answersIn, ordersIn, orderAt, outcomeAt, ordersFrom, waiting, counted, full, putAt, joined, answeredAt, answeredFrom, settled, foundFrom, placeOf, found, lowered, without, emptied}
+use Rattle.waiting.specs.Layout.{least, answersIn, ordersIn, orderAt, outcomeAt, ordersFrom, waiting, counted, full, putAt, joined, answeredAt, answeredFrom, settled, foundFrom, placeOf, found, lowered, withoutPlace, emptied}
 use Rattle.waiting.specs.Carrying.{carriedAll, outcomes}
 use Rattle.orders.specs.Checks.{lentCheck, orderCheck}
 use Rattle.orders.specs.Results.{addOrder, carried, carriedAnswer, carriedBoard, ranBoard, ranList}
@@ -49,7 +48,7 @@ history :
     × (plain (opened 2) turns ≡ Add 1 1 ∷ Slot ∷ Slot ∷ Slot ∷ Slot ∷ Add 2 1 ∷ Slot ∷ Slot ∷ [])
     × (plain (exchanged (opened 2)) (turnedAll turns) ≡ Add 1 1 ∷ Slot ∷ Slot ∷ Add 2 1 ∷ Slot ∷ [])
     × FullRound (leavesAll (opened 2) (Own (Adds 1 1) ∷ [])) (Other (Adds 2 1) ∷ Other Slots ∷ Own Slots ∷ [])
-unfolding through along Each actOf actsOf due openCheck addCheck removeCheck slotCheck positionCheck idleBoard uniform whole pieces weight nth single sound sum fill first fit spot put place copy move twin join pair step tidy clear digits leafAt nextFrom least answersIn ordersIn orderAt outcomeAt ordersFrom waiting counted full putAt joined answeredAt answeredFrom settled foundFrom placeOf found lowered without emptied carriedAll outcomes carried carriedAnswer carriedBoard ranBoard ranList lentCheck orderCheck applies sizeCheck placeCheck pairCheck bothStart wayOf boardThen listThen
+unfolding through along Each actOf actsOf due openCheck addCheck removeCheck slotCheck positionCheck idleBoard uniform whole pieces weight nth single sound sum fill first fit spot put place copy move twin join pair step tidy clear digits leafAt nextFrom least answersIn ordersIn orderAt outcomeAt ordersFrom waiting counted full putAt joined answeredAt answeredFrom settled foundFrom placeOf found lowered withoutPlace emptied carriedAll outcomes carried carriedAnswer carriedBoard ranBoard ranList lentCheck orderCheck applies sizeCheck placeCheck pairCheck bothStart wayOf boardThen listThen
 history = (refl, refl, refl, record { first = refl; whole = (refl, (refl, (refl, tt))); slots = refl })
 
 -- One drive is a slot ahead when an order is taken, and then they take turns: after six slots positions, board and list are as they were, and the order waits. Once
@@ -73,12 +72,12 @@ out-of-step :
     (along leaves at late six ≡ (3 ∷ 1 ∷ []) ∷ (3 ∷ 2 ∷ []) ∷ (1 ∷ 2 ∷ []) ∷ (1 ∷ 3 ∷ []) ∷ (2 ∷ 3 ∷ []) ∷ (2 ∷ 1 ∷ []) ∷ [])
     × (late ≡ apart 0 0) × (waiting (late .list) ≡ addOrder 5 1 ∷ [])
     × (along leaves said (leavesAll late six) (Own Slots ∷ Other Slots ∷ Own (Fetches 1) ∷ []) ≡ (0 ∷ 0 ∷ 1 ∷ 0 ∷ 1 ∷ []) ∷ (0 ∷ 0 ∷ 0 ∷ 0 ∷ 1 ∷ []) ∷ (0 ∷ 2 ∷ []) ∷ [])
-unfolding through along openCheck addCheck removeCheck slotCheck positionCheck idleBoard uniform whole pieces weight nth single sound sum fill first fit spot put place copy move twin join pair step tidy clear digits leafAt nextFrom least answersIn ordersIn orderAt outcomeAt ordersFrom waiting counted full putAt joined answeredAt answeredFrom settled foundFrom placeOf found lowered without emptied carriedAll outcomes carried carriedAnswer carriedBoard ranBoard ranList lentCheck orderCheck applies sizeCheck placeCheck pairCheck bothStart wayOf boardThen listThen
+unfolding through along openCheck addCheck removeCheck slotCheck positionCheck idleBoard uniform whole pieces weight nth single sound sum fill first fit spot put place copy move twin join pair step tidy clear digits leafAt nextFrom least answersIn ordersIn orderAt outcomeAt ordersFrom waiting counted full putAt joined answeredAt answeredFrom settled foundFrom placeOf found lowered withoutPlace emptied carriedAll outcomes carried carriedAnswer carriedBoard ranBoard ranList lentCheck orderCheck applies sizeCheck placeCheck pairCheck bothStart wayOf boardThen listThen
 out-of-step = (refl, refl, refl, refl)
 
 -- So it is however often they do.
 around : (m n : ℕ) → leavesAll (apart m n) six ≡ apart (roundAfter m) (roundAfter n)
-unfolding through along openCheck addCheck removeCheck slotCheck positionCheck idleBoard uniform whole pieces weight nth single sound sum fill first fit spot put place copy move twin join pair step tidy clear digits leafAt nextFrom least answersIn ordersIn orderAt outcomeAt ordersFrom waiting counted full putAt joined answeredAt answeredFrom settled foundFrom placeOf found lowered without emptied carriedAll outcomes carried carriedAnswer carriedBoard ranBoard ranList lentCheck orderCheck applies sizeCheck placeCheck pairCheck bothStart wayOf boardThen listThen
+unfolding through along openCheck addCheck removeCheck slotCheck positionCheck idleBoard uniform whole pieces weight nth single sound sum fill first fit spot put place copy move twin join pair step tidy clear digits leafAt nextFrom least answersIn ordersIn orderAt outcomeAt ordersFrom waiting counted full putAt joined answeredAt answeredFrom settled foundFrom placeOf found lowered withoutPlace emptied carriedAll outcomes carried carriedAnswer carriedBoard ranBoard ranList lentCheck orderCheck applies sizeCheck placeCheck pairCheck bothStart wayOf boardThen listThen
 around m n = refl
 
 sixes : ℕ → List Turn
@@ -105,5 +104,5 @@ stretch :
     StillTurns loaded (Own (Adds 2 1) ∷ pairs 8)
     × (namesServed loaded (Own (Adds 2 1) ∷ pairs 8) ≡ 1 ∷ 0 ∷ 0 ∷ 0 ∷ 1 ∷ 0 ∷ 0 ∷ 0 ∷ [])
     × (waiting (leavesAll loaded (Own (Adds 2 1) ∷ pairs 8) .list) ≡ addOrder 2 1 ∷ [])
-unfolding through along actOf actsOf due noneDone log openCheck addCheck removeCheck slotCheck positionCheck idleBoard uniform whole pieces weight nth single sound sum fill first fit spot put place copy move twin join pair step tidy clear digits leafAt nextFrom least answersIn ordersIn orderAt outcomeAt ordersFrom waiting counted full putAt joined answeredAt answeredFrom settled foundFrom placeOf found lowered without emptied carriedAll outcomes carried carriedAnswer carriedBoard ranBoard ranList lentCheck orderCheck applies sizeCheck placeCheck pairCheck bothStart wayOf boardThen listThen
+unfolding through along actOf actsOf due noneDone log openCheck addCheck removeCheck slotCheck positionCheck idleBoard uniform whole pieces weight nth single sound sum fill first fit spot put place copy move twin join pair step tidy clear digits leafAt nextFrom least answersIn ordersIn orderAt outcomeAt ordersFrom waiting counted full putAt joined answeredAt answeredFrom settled foundFrom placeOf found lowered withoutPlace emptied carriedAll outcomes carried carriedAnswer carriedBoard ranBoard ranList lentCheck orderCheck applies sizeCheck placeCheck pairCheck bothStart wayOf boardThen listThen
 stretch = (record { whole = tested leaves restarts loaded (Own (Adds 2 1) ∷ pairs 8) refl; kept = refl }, refl, refl)

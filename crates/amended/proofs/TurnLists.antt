@@ -1,6 +1,5 @@
 -- What the calls of two drives do to the list that they share: it stays in order, the tickets told to both count up together, and one order is followed from the
--- call that took it to the fetch of its answer, by either drive.
--- Assumes nothing.
+-- call that took it to the fetch of its answer, by either drive. Assumes nothing.
 use mathlib.Core.Path.{_≡_, refl}
 use mathlib.Core.Bool.{false}
 use mathlib.Core.List.{List, [], _∷_, _++_}
@@ -108,8 +107,7 @@ module _ (t : ℕ) (o : Order) (ahead : List Order) where
 
   pub followed : (ψ : Fate) (s : Pair) → Follows t o ahead ψ (seen s) → (between : List Turn)
       → answers (Own (Fetches t)) (leavesAll s between) ≡ toldOf t (fateThrough t o ahead ψ s between)
-  followed ψ s f between =
-      told t o ahead (fateThrough t o ahead ψ s between) (seen (leavesAll s between))
+  followed ψ s f between = told t o ahead (fateThrough t o ahead ψ s between) (seen (leavesAll s between))
       (projecting.ever leaves (fateNext t o ahead) (λ φ u. Follows t o ahead φ (seen u)) follows-next ψ s f between)
 
 -- a change that answers 13 is on the list

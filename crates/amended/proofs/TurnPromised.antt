@@ -5,10 +5,9 @@ use mathlib.Core.List.{List}
 use Prim.Native.Nat.{ℕ}
 use Rattle.calls.specs.declared.Drive.{Drive}
 use Rattle.calls.specs.declared.Served.{Served}
-use Rattle.calls.specs.declared.Rounded.{Rounded}
-use Rattle.calls.specs.declared.Refreshed.{Refreshed}
+use Rattle.calls.specs.declared.Checked.{Checked}
 use Rattle.calls.specs.declared.Reported.{Reported}
-use Rattle.calls.specs.Answers.{servingAnswer, roundingAnswer, refreshingAnswer, reportAnswer}
+use Rattle.calls.specs.Answers.{servingAnswer, checkAnswer, reportAnswer}
 use Rattle.sheets.specs.declared.Saved.{Saved}
 use Rattle.sheets.specs.Results.{savingAnswer}
 use Rattle.orders.specs.declared.Ordered.{Ordered}
@@ -43,9 +42,9 @@ module _ (s : Pair) where
       → (servingAnswer (r .answer) ≡ answersOwn deeds.Slots s) × Kept deeds.Slots s (r .drive) E F
   slot-kept p = (p .1, (ap (λ (r : Served). r .drive) (p .0), p .2, p .3))
 
-  pub round-kept : (O : List ℕ) {r : Rounded} {E : List ℕ} → Rounds a b (s .board) O r E
-      → (roundingAnswer (r .answer) ≡ answersOwn (deeds.Rounds O) s) × (r .drive ≡ returned (deeds.Rounds O) s) × (E ≡ writes (deeds.Rounds O) s)
-  round-kept O p = (p .1, ap (λ (r : Rounded). r .drive) (p .0), p .2)
+  pub round-kept : (O : List ℕ) {r : Checked} {E : List ℕ} → Rounds a b (s .board) O r E
+      → (checkAnswer (r .answer) ≡ answersOwn (deeds.Rounds O) s) × (r .drive ≡ returned (deeds.Rounds O) s) × (E ≡ writes (deeds.Rounds O) s)
+  round-kept O p = (p .1, ap (λ (r : Checked). r .drive) (p .0), p .2)
 
   pub report-kept : (x : ℕ) {r : Reported} → Reports a b (s .board) x r
       → (reportAnswer (r .answer) ≡ answersOwn (deeds.Reports x) s) × (r .drive ≡ returned (deeds.Reports x) s)
@@ -59,6 +58,6 @@ module _ (s : Pair) where
       → (savingAnswer (r .answer) ≡ answersOwn (deeds.Saves Pieces O) s) × (r .drive ≡ returned (deeds.Saves Pieces O) s) × (E ≡ writes (deeds.Saves Pieces O) s)
   save-pieces-kept O p = (p .1, ap (λ (r : Saved). r .drive) (p .0), p .2)
 
-  pub fresh-kept : {r : Refreshed} {E : List ℕ} → Refreshes a b (s .board) r E
-      → (refreshingAnswer (r .answer) ≡ answersOwn deeds.Refreshes s) × (r .drive ≡ returned deeds.Refreshes s) × (E ≡ boardAfter deeds.Refreshes s)
-  fresh-kept p = (p .1, ap (λ (r : Refreshed). r .drive) (p .0), p .2)
+  pub fresh-kept : {r : Checked} {E : List ℕ} → Refreshes a b (s .board) r E
+      → (checkAnswer (r .answer) ≡ answersOwn deeds.Refreshes s) × (r .drive ≡ returned deeds.Refreshes s) × (E ≡ boardAfter deeds.Refreshes s)
+  fresh-kept p = (p .1, ap (λ (r : Checked). r .drive) (p .0), p .2)

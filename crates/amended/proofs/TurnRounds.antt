@@ -12,7 +12,8 @@ use Rattle.calls.specs.declared.Check.the-variants.{Clear}
 use Rattle.calls.specs.Records.{roundAfter}
 use Rattle.calls.specs.Results.{ifClear}
 use Rattle.demands.specs.Histories.{Act, Slot, State, after, log}
-use Rattle.demands.specs.Holdings.{Stream, heldFrom}
+use Rattle.pieces.specs.Streams.{Stream}
+use Rattle.demands.specs.Holdings.{heldFrom}
 use Rattle.demands.specs.Rounds.{namesFrom}
 use Rattle.demands.specs.Rounds as rounds
 use Rattle.demands.proofs.Laws.{Sound, reached, slot-clear, fresh-passes, full-over}
@@ -59,8 +60,7 @@ module _ (hs : List Stream) (s : Pair) (is : Standing hs s) where
 
   -- and is the same whichever drive's slot runs it
   pub then-turned : heldThen hs (exchanged s) ≡ heldThen hs s
-  then-turned =
-      ap (λ (os : List Order). heldFrom hs (log (shown (exchanged s)) (actsOf os))) (due-turned s)
+  then-turned = ap (λ (os : List Order). heldFrom hs (log (shown (exchanged s)) (actsOf os))) (due-turned s)
       ∙ sym (rw first-clear at (carries-held hs Slots s))
 
   -- where both drives are at the start of a round a slot leaves no order waiting
@@ -94,8 +94,7 @@ module _ (hs : List Stream) (s : Pair) (is : Standing hs s) (rest : List Turn) (
 
   pub round-names : namesServed s (Own Slots ∷ rest) ≡ namesFrom (ranState s) later
   unfolding Each
-  round-names =
-      projecting.names-from-slot leaves shown standsFor (λ t u. restarts t u ≡ false) projected-one
+  round-names = projecting.names-from-slot leaves shown standsFor (λ t u. restarts t u ≡ false) projected-one
       (Own Slots) s rest (actsOf (due s)) (clear-stands s (firstChecks s) (first-clear hs s is)) (refl, full .whole)
       nameServed names-one (acts-names (shown s) (due s))
       ∙ rw (due-state s) refl
@@ -105,8 +104,7 @@ module _ (hs : List Stream) (s : Pair) (is : Standing hs s) (rest : List Turn) (
 
   leads : shown (leavesAll s (Own Slots ∷ rest)) ≡ after (ranState s) (Slot ∷ later)
   unfolding Each
-  leads =
-      projecting.leads-from-slot leaves shown standsFor (λ t u. restarts t u ≡ false) projected-one
+  leads = projecting.leads-from-slot leaves shown standsFor (λ t u. restarts t u ≡ false) projected-one
       (Own Slots) s rest (actsOf (due s)) (clear-stands s (firstChecks s) (first-clear hs s is)) (refl, full .whole)
       ∙ rw (due-state s) refl
 

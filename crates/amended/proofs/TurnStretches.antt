@@ -6,7 +6,7 @@ use Prim.Native.Nat.{ℕ}
 use lib.ListN.{length, replicate}
 use Rattle.general.proofs.Laws.{by-bool}
 use Rattle.demands.specs.Histories.{Act, Slot}
-use Rattle.demands.specs.Holdings.{Stream}
+use Rattle.pieces.specs.Streams.{Stream}
 use Rattle.demands.specs.Stretches.{PowerOfTwo, PowerFair, StillFair}
 use Rattle.waiting.specs.Layout.{waiting}
 use Rattle.drives.specs.Checks.{bothStart}
@@ -64,13 +64,11 @@ module _ (hs : List Stream) (s : Pair) (is : Standing hs s) (rest : List Turn) w
   -- from a slot on that carries out what waits, if it does, before it is picked
   module _ (still : StillTurns (leaves (Own Slots) s) rest) where
     pub power-then : PowerOfTwo (s .own .capacity) → PowerFair (s .own .capacity) (ranState s .board) (heldThen hs s) (namesServed s (Own Slots ∷ rest))
-    power-then =
-        stretching.power-then leaves shown standsFor restarts projected-one nameServed names-one (heldThen hs s) s rest
+    power-then = stretching.power-then leaves shown standsFor restarts projected-one nameServed names-one (heldThen hs s) s rest
         (Own Slots) (actsOf (due s)) (clear-stands s (firstChecks s) (first-clear hs s is)) refl
         (acts-names (shown s) (due s)) (ranState s) (due-state s) (ran-sound hs s is) still
 
     pub fair-then : StillFair (s .own .capacity) (heldThen hs s) (namesServed s (Own Slots ∷ rest))
-    fair-then =
-        stretching.fair-then leaves shown standsFor restarts projected-one nameServed names-one (heldThen hs s) s rest
+    fair-then = stretching.fair-then leaves shown standsFor restarts projected-one nameServed names-one (heldThen hs s) s rest
         (Own Slots) (actsOf (due s)) (clear-stands s (firstChecks s) (first-clear hs s is)) refl
         (acts-names (shown s) (due s)) (ranState s) (due-state s) (ran-sound hs s is) still

@@ -13,7 +13,7 @@ use Rattle.calls.specs.declared.Check.the-variants.{Clear, Refused}
 use Rattle.calls.specs.Refusals.{slotCheck}
 use Rattle.calls.specs.Answers.{answered}
 use Rattle.calls.specs.Results.{ifClear, movedOn, servedName, servedLeaf, servedPassed, servedRound, refreshedBoard}
-use Rattle.calls.proofs.Laws.{number-some}
+use Rattle.calls.proofs.Laws.{number-some, is-clear, not-clear}
 use Rattle.demands.specs.Histories.{Act, Slot, Round, Report, State, does, after, log}
 use Rattle.demands.specs.Rounds.{names}
 use Rattle.demands.proofs.Laws.{stateAt, after-append, names-append}
@@ -32,8 +32,7 @@ use Rattle.amended.specs.Carried.{actsOf}
 use Rattle.amended.specs.Deeds as one
 use Rattle.amended.specs.Deeds.{Deed, Opens, Reads, Adds, Removes, Slots, Rounds, Reports, Saves, Fetches, Refreshes, openChecks, readChecks}
 use Rattle.amended.specs.Turns.{Pair, exchanged, seen, shown, firstChecks, lookChecks, freshChecks, wayAt, leavesOwn, Turn, Own, Other, leaves, leavesAll, turnedAll, restarts, Unbroken, due, ifNow, carriesOut, laysOut, shared, alone, standsFor, plain, nameIn, nameOwn, nameServed, namesServed}
-use Rattle.amended.proofs.Carrying.{carry-all, acts-names}
-use Rattle.amended.proofs.Projection.{not-clear, is-clear}
+use Rattle.amended.proofs.Carrying.{carry-all, acts-names, way-alike, run-alike}
 use Rattle.amended.proofs.Projecting as projecting
 
 -- ---- the other drive's history
@@ -98,27 +97,19 @@ own-board Refreshes s e f = rw (not-clear (freshChecks s) f .1) refl
 
 module _ {X : Type 0} (f : Drive → List Order → X) (none : (a b : Drive) → f a [] ≡ f b [])
     (some : (a b : Drive) → a .capacity ≡ b .capacity → a .position ≡ b .position → (os : List Order) → f a os ≡ f b os) where
-  way-alike : (s : Pair) (o : Order) (k : Way) → wayAt o s ≡ k → f (s .own) (ifNow k o) ≡ f (s .other) (ifNow k o)
-  way-alike s o (way.Refused r) e = none (s .own) (s .other)
-  way-alike s o way.Wait e = none (s .own) (s .other)
-  way-alike s o way.Now e =
+  change-alike : (s : Pair) (o : Order) → f (s .own) (ifNow (wayAt o s) o) ≡ f (s .other) (ifNow (wayAt o s) o)
+  change-alike s o = way-alike f none some (s .own) (s .other) o (wayAt o s) (λ e.
       let n = now-both (s .own) (s .other) (s .board) (s .list) o e in
-      let same = pair-clear (s .own) (s .other) (s .board) (tooShort (length (s .list))) (n .clear) .same in
-      some (s .own) (s .other) same (n .own ∙ sym (n .other)) (o ∷ [])
-
-  slot-alike : (s : Pair) (k : Check) → firstChecks s ≡ k → f (s .own) (ifClear k (due s) []) ≡ f (s .other) (ifClear k (due s) [])
-  unfolding due
-  slot-alike s (Refused r) e = none (s .own) (s .other)
-  slot-alike s Clear e = by-bool (bothStart (s .own) (s .other))
-      (λ t. let q = both-alike (s .own) (s .other) (s .board) (length (s .list)) e t in rw t (some (s .own) (s .other) (q .0) (q .1) (waiting (s .list))))
-      (λ t. rw t (none (s .own) (s .other)))
+      (pair-clear (s .own) (s .other) (s .board) (tooShort (length (s .list))) (n .clear) .same, n .own ∙ sym (n .other)))
 
   pub carries-alike : (a : Deed) (s : Pair) → f (s .own) (carriesOut a s) ≡ f (s .other) (carriesOut a s)
+  unfolding due
   carries-alike (Opens C) s = none (s .own) (s .other)
   carries-alike (Reads form S) s = none (s .own) (s .other)
-  carries-alike (Adds x w) s = way-alike s (addOrder x w) (wayAt (addOrder x w) s) refl
-  carries-alike (Removes x) s = way-alike s (removeOrder x) (wayAt (removeOrder x) s) refl
-  carries-alike Slots s = slot-alike s (firstChecks s) refl
+  carries-alike (Adds x w) s = change-alike s (addOrder x w)
+  carries-alike (Removes x) s = change-alike s (removeOrder x)
+  carries-alike Slots s =
+      run-alike f none some (s .own) (s .other) (firstChecks s) (bothStart (s .own) (s .other)) (waiting (s .list)) (both-alike (s .own) (s .other) (s .board) (length (s .list)))
   carries-alike (Rounds O) s = none (s .own) (s .other)
   carries-alike (Reports x) s = none (s .own) (s .other)
   carries-alike (Saves form O) s = none (s .own) (s .other)
@@ -197,8 +188,7 @@ own-alone Refreshes s e = refl
 -- ---- the record and the board
 
 pub projected-one : (t : Turn) (s : Pair) → restarts t s ≡ false → shown (leaves t s) ≡ after (shown s) (standsFor t s)
-projected-one (Own a) s e =
-    sym (after-append (shown s) (shared a s) (alone a s)
+projected-one (Own a) s e = sym (after-append (shown s) (shared a s) (alone a s)
     ∙ ap (λ (u : State). after u (alone a s)) (own-shared a s e)
     ∙ own-alone a s e)
 projected-one (Other a) s e =
@@ -240,8 +230,7 @@ unfolding names log
 shared-names u a s = by-bool (laysOut a s) (λ t. rw t refl) (λ f. rw f (acts-names u (carriesOut a s)))
 
 pub names-one : (t : Turn) (s : Pair) → restarts t s ≡ false → nameServed t s ≡ names (log (shown s) (standsFor t s))
-names-one (Own a) s e =
-    own-names a s
+names-one (Own a) s e = own-names a s
     ∙ ap (λ (u : State). names (log u (alone a s))) (sym (own-shared a s e))
     ∙ sym (names-append (shown s) (shared a s) (alone a s) ∙ rw (shared-names (shown s) a s) refl)
 names-one (Other a) s e = sym (shared-names (shown s) a (exchanged s))

@@ -1,8 +1,7 @@
 -- The demands for two drives on one board, request No. 10, each by its name. Demand 1, tickets and what becomes of an order hold for every call and every input;
 -- demand 3, and request No. 13, for each of the two drives, after every history of calls of both, refused or not, opens and reads among them, each call given
 -- the last record of both. What is proved of the own drive holds of the other, since what that one sees is a history too. Nothing says that two drives are
--- ever at the start of a round together.
--- Assumes nothing.
+-- ever at the start of a round together. Assumes nothing.
 use mathlib.Core.Path.{_≡_, refl}
 use mathlib.Core.Bool.{true, false, cond}
 use mathlib.Core.List.{List, [], _∷_}
@@ -11,15 +10,16 @@ use native.Mathlib.Omega.{arith}
 use lib.Count.{ones}
 use lib.Dec.{ltb}
 use lib.ListN.{length, replicate}
-use Rattle.pieces.specs.Board.{weight, number}
+use Rattle.sequences.specs.Scanning.{occurrences}
+use Rattle.pieces.specs.Board.{weight, pieceCount}
 use Rattle.calls.specs.declared.Check.the-variants.{Clear}
 use Rattle.calls.specs.Records.{roundAfter}
-use Rattle.calls.specs.Refusals.{firstOf, askedAdd}
+use Rattle.calls.specs.Refusals.{firstOf, askedAdd, admitMay}
 use Rattle.calls.specs.Results.{roundNames}
 use Rattle.demands.specs.Histories.{Act, Fresh, State, does, after, log}
-use Rattle.demands.specs.Refusing.{otherChecks}
-use Rattle.demands.specs.Holdings.{Stream, heldFrom, heldOf, total}
-use Rattle.demands.specs.Rounds.{names, times, inARow, Near, bound, demanded}
+use Rattle.pieces.specs.Streams.{Stream, heldOf, total}
+use Rattle.demands.specs.Holdings.{heldFrom}
+use Rattle.demands.specs.Rounds.{names, inARow, Near, bound, demanded}
 use Rattle.demands.specs.Stretches.{PowerOfTwo, PowerFair, StillFair}
 use Rattle.waiting.specs.declared.Order.{Order}
 use Rattle.waiting.specs.Layout.{lastTicket, waiting}
@@ -37,7 +37,7 @@ use Rattle.amended.specs.Refusing.{ofBoard}
 use Rattle.amended.specs.Turns.{Pair, exchanged, Which, This, That, seenBy, seen, shown, wayAt, answersOwn, leavesOwn, Turn, Own, Other, answers, leaves, leavesAll, turned, turnedAll, restarts, Unbroken, plain, namesServed, FullRound, ticketsTold}
 use Rattle.amended.specs.Sharing.{heldNext, heldThrough, heldThen, Ready, fateThrough}
 use Rattle.amended.specs.Stretches.{StillTurns}
-use Rattle.amended.proofs.Keeping.{held-leaves, held-pieces, held-within, turn-others, turn-room, turn-carried, Serves, round-serves}
+use Rattle.amended.proofs.Held.{held-leaves, held-pieces, held-within, turn-others, turn-room, turn-carried, Serves, round-serves}
 use Rattle.amended.proofs.Listing.{taken-follows}
 use Rattle.amended.proofs.Turning.{turned-leaves, other-stays, ranState, projected, names-same}
 use Rattle.amended.proofs.Sharing.{fresh-held, held-plain, held-turned, Standing, standing-turned, both-given, restart-standing, standing}
@@ -152,7 +152,7 @@ module _ (s : Pair) (ready : Ready s) (turns : List Turn) (f : Which) where
   pub two-held : (x : ℕ) → (x ≡ 0 → ⊥) → heldOf x held' ≡ weight C (pair' .board) x
   two-held = held-leaves (shown pair') held' (st .own)
 
-  pub two-pieces : (x : ℕ) → (x ≡ 0 → ⊥) → number C (pair' .board) x ≡ ones (heldOf x held')
+  pub two-pieces : (x : ℕ) → (x ≡ 0 → ⊥) → pieceCount C (pair' .board) x ≡ ones (heldOf x held')
   two-pieces = held-pieces (shown pair') held' (st .own)
 
   pub two-within : total held' ≤ C
@@ -170,11 +170,11 @@ module _ (s : Pair) (ready : Ready s) (turns : List Turn) (f : Which) where
 
     -- It passes the checks beside ROOM if a round begins, it has a name and a weight, and nothing is held of the name;
     pub two-others : (x w : ℕ) → turn .drive .position ≡ 1 → (x ≡ 0 → ⊥) → (w ≡ 0 → ⊥) → heldOf x heldInTurn ≡ 0
-        → firstOf otherChecks (askedAdd (turn .drive) (turn .board) x w) ≡ Clear
+        → firstOf admitMay (askedAdd (turn .drive) (turn .board) x w) ≡ Clear
     two-others = turn-others (shown pair') held' (st .own) ahead
 
     -- and then it is refused for ROOM exactly when its weight exceeds C less the sum of the weights held, and else it is done. Refused so, it says that number.
-    pub two-room : (x w : ℕ) → firstOf otherChecks (askedAdd (turn .drive) (turn .board) x w) ≡ Clear
+    pub two-room : (x w : ℕ) → firstOf admitMay (askedAdd (turn .drive) (turn .board) x w) ≡ Clear
         → (inTurn (shown pair') ahead (addOrder x w) .number ≡ cond (ltb (C - total heldInTurn) w) 10 0)
         × (inTurn (shown pair') ahead (addOrder x w) .number ≡ 10 → inTurn (shown pair') ahead (addOrder x w) .values ≡ (C - total heldInTurn) ∷ [])
     two-room = turn-room (shown pair') held' (st .own) ahead
@@ -223,8 +223,7 @@ module _ (s : Pair) (ready : Ready s) (turns : List Turn) (f : Which) where
     later = plain (leaves (Own Slots) pair') rest
 
     serves : Serves C (ranState pair' .board) (heldThen held' pair') (namesServed pair' (Own Slots ∷ rest))
-    serves =
-        round-serves (ranState pair') (heldThen held' pair') (ran-sound held' pair' st) later (plain-round held' pair' st rest full)
+    serves = round-serves (ranState pair') (heldThen held' pair') (ran-sound held' pair' st) later (plain-round held' pair' st rest full)
         (namesServed pair' (Own Slots ∷ rest)) (round-names held' pair' st rest full)
 
     -- A full round ends where the drive's next one starts, with the number one more.
@@ -236,17 +235,17 @@ module _ (s : Pair) (ready : Ready s) (turns : List Turn) (f : Which) where
     two-order = serves .order
 
     -- In it a name is served as often as the weight that it holds then.
-    pub two-round : (x : ℕ) → (x ≡ 0 → ⊥) → times x (namesServed pair' (Own Slots ∷ rest)) ≡ heldOf x (heldThen held' pair')
+    pub two-round : (x : ℕ) → (x ≡ 0 → ⊥) → occurrences x (namesServed pair' (Own Slots ∷ rest)) ≡ heldOf x (heldThen held' pair')
     two-round = serves .often
 
     -- In any t successive slots of it a stream of weight w is served s times, and C s and w t differ by less than m C + w h,
     pub two-fair : (x w i t : ℕ) → heldOf x (heldThen held' pair') ≡ w → zero < w → i + t ≤ C
-        → Near (C * times x (inARow i t (namesServed pair' (Own Slots ∷ rest)))) (w * t) (bound C w)
+        → Near (C * occurrences x (inARow i t (namesServed pair' (Own Slots ∷ rest)))) (w * t) (bound C w)
     two-fair = serves .fair
 
     -- so by less than the demand's own 2 m C + w h.
     pub two-demanded : (x w i t : ℕ) → heldOf x (heldThen held' pair') ≡ w → zero < w → i + t ≤ C
-        → Near (C * times x (inARow i t (namesServed pair' (Own Slots ∷ rest)))) (w * t) (demanded C w)
+        → Near (C * occurrences x (inARow i t (namesServed pair' (Own Slots ∷ rest)))) (w * t) (demanded C w)
     two-demanded x w i t h some within = let g = two-fair x w i t h some within in omega arith
 
   -- ---- Request No. 13: calls of both drives in which nothing is changed, by neither of them, over any number of rounds of the drive

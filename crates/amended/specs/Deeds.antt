@@ -3,11 +3,12 @@
 -- a read that is done begins a history of its own.
 -- Assumes nothing.
 use mathlib.Core.Path.{_≡_}
-use mathlib.Core.Bool.{Bool, true, false, cond, _&&_}
+use mathlib.Core.Bool.{Bool, false, cond, _&&_}
 use mathlib.Core.List.{List, [], _∷_, _++_}
 use Prim.Native.Nat.{ℕ, _+_}
 use lib.Dec.{eqb}
 use lib.ListN.{length, getD}
+use Rattle.calls.specs.Refusals.{isClear}
 use Rattle.calls.specs.declared.Drive.{Drive}
 use Rattle.calls.specs.declared.Check.{Check}
 use Rattle.calls.specs.declared.Check.the-variants.{Clear, Refused}
@@ -145,10 +146,6 @@ leavesAll s deeds = through leaves s deeds
 
 -- ---- the plain history
 
-abbrev pub isClear : Check → Bool
-isClear Clear = true
-isClear (Refused r) = false
-
 -- An open or a read that is done.
 abbrev pub restarts : Deed → Desk → Bool
 restarts (Opens C) s = isClear (openChecks s C)
@@ -180,16 +177,16 @@ madeBy (way.Refused r) o = []
 madeBy way.Wait o = []
 madeBy way.Now o = actOf o
 
-abbrev pub servedBy : Check → List Act → List Act
-servedBy (Refused r) before = []
-servedBy Clear before = before ++ (Slot ∷ [])
+abbrev pub slotBy : Check → List Act → List Act
+slotBy (Refused r) before = []
+slotBy Clear before = before ++ (Slot ∷ [])
 
 abbrev pub standsFor : Deed → Desk → List Act
 standsFor (Opens C) s = []
 standsFor (Reads form S) s = []
 standsFor (Adds x w) s = madeBy (wayAt (addOrder x w) s) (addOrder x w)
 standsFor (Removes x) s = madeBy (wayAt (removeOrder x) s) (removeOrder x)
-standsFor Slots s = servedBy (firstChecks s) (actsOf (due s))
+standsFor Slots s = slotBy (firstChecks s) (actsOf (due s))
 standsFor (Rounds O) s = Round O ∷ []
 standsFor (Reports x) s = Report x ∷ []
 standsFor (Saves form O) s = []

@@ -10,7 +10,8 @@ use Rattle.pieces.specs.Board.{good}
 use Rattle.calls.specs.declared.Check.the-variants.{Clear}
 use Rattle.calls.specs.Refusals.{slotCheck}
 use Rattle.demands.specs.Histories.{State, log}
-use Rattle.demands.specs.Holdings.{Stream, heldFrom}
+use Rattle.pieces.specs.Streams.{Stream}
+use Rattle.demands.specs.Holdings.{heldFrom}
 use Rattle.amended.specs.Histories.{following}
 use Rattle.amended.specs.Carried.{actsOf}
 use Rattle.amended.specs.Deeds.{Deed, Desk, leaves, restarts, standsFor, due}

@@ -2,7 +2,7 @@
 -- Assumes nothing.
 use mathlib.Core.Path.{_≡_}
 use mathlib.Core.Bool.{Bool, true, false, cond}
-use mathlib.Core.List.{List, [], _∷_, map}
+use mathlib.Core.List.{List, [], _∷_}
 use Prim.Native.Nat.{ℕ, _+_}
 use lib.Dec.{eqb}
 use Rattle.pieces.specs.Board.{weight}
@@ -11,6 +11,7 @@ use Rattle.calls.specs.Records.{driveAt}
 use Rattle.calls.specs.Refusals.{zeroOr}
 use Rattle.calls.specs.Answers.{Answer}
 use Rattle.calls.specs.Results.{roundedOutput}
+use Rattle.demands.specs.Refusing.{zeros}
 use Rattle.sheets.specs.Forms.{savedOutputAs}
 use Rattle.waiting.specs.declared.Fetching.{Fetching}
 use Rattle.waiting.specs.declared.Fetching.the-variants as fetching
@@ -61,10 +62,7 @@ refusedRecord (Saves form O) d = d
 refusedRecord (Fetches t) d = d
 refusedRecord Refreshes d = d
 
--- The values of a refused call: zeros, but beside 13 the ticket and beside 10 the idle leaves there are.
-abbrev pub zeros : List ℕ → List ℕ
-zeros vs = map (λ v. 0) vs
-
+-- The ticket beside 13.
 abbrev pub ticketOf : Deed → Desk → ℕ
 ticketOf (Opens C) s = 0
 ticketOf (Reads form S) s = 0
@@ -77,24 +75,26 @@ ticketOf (Saves form O) s = 0
 ticketOf (Fetches t) s = t
 ticketOf Refreshes s = 0
 
+-- The idle leaves beside 10.
 abbrev pub idleLeaves : Desk → ℕ
 idleLeaves s = weight (s .state .drive .capacity) (s .state .board) 0
 
+-- The values of a refused call: as many zeros, but beside 13 the ticket and beside 10 the idle leaves there are.
 abbrev pub refusedValues : Deed → Desk → Answer → List ℕ
 refusedValues a s r = cond (eqb (r .number) 13) (ticketOf a s ∷ []) (cond (eqb (r .number) 10) (idleLeaves s ∷ []) (zeros (r .values)))
 
 -- The output that a call is lent, and what it leaves there.
-abbrev pub lent : Deed → List ℕ
-lent (Opens C) = []
-lent (Reads form S) = []
-lent (Adds x w) = []
-lent (Removes x) = []
-lent Slots = []
-lent (Rounds O) = O
-lent (Reports x) = []
-lent (Saves form O) = O
-lent (Fetches t) = []
-lent Refreshes = []
+abbrev pub lentOutput : Deed → List ℕ
+lentOutput (Opens C) = []
+lentOutput (Reads form S) = []
+lentOutput (Adds x w) = []
+lentOutput (Removes x) = []
+lentOutput Slots = []
+lentOutput (Rounds O) = O
+lentOutput (Reports x) = []
+lentOutput (Saves form O) = O
+lentOutput (Fetches t) = []
+lentOutput Refreshes = []
 
 abbrev pub writes : Deed → Desk → List ℕ
 writes (Opens C) s = []
@@ -129,7 +129,7 @@ pub record RefusedBy (a : Deed) (s : Desk) (r : Answer) (d : Drive) (E F O : Lis
   pub record' : d ≡ refusedRecord a (s .state .drive)
   pub board : E ≡ s .state .board
   pub list : joins a r ≡ false → F ≡ s .list
-  pub output : O ≡ lent a
+  pub output : O ≡ lentOutput a
   pub values : r .values ≡ refusedValues a s r
 
 abbrev pub Refused : Deed → Desk → Type 0

@@ -9,7 +9,8 @@ use lib.ListN.{length}
 use Rattle.pieces.specs.Board.{good}
 use Rattle.calls.specs.declared.Check.the-variants.{Clear}
 use Rattle.demands.specs.Histories.{log}
-use Rattle.demands.specs.Holdings.{Stream, heldFrom}
+use Rattle.pieces.specs.Streams.{Stream}
+use Rattle.demands.specs.Holdings.{heldFrom}
 use Rattle.waiting.specs.declared.Order.{Order}
 use Rattle.drives.specs.Results.{roundedOutput, savedOutputBy}
 use Rattle.amended.specs.Histories.{following}

@@ -1,13 +1,14 @@
--- Histories of the calls for two drives on one board, as one of the drives sees them, and the plain history of that drive that they stand for: the orders that
--- either drive's calls carry out, the fresh layouts of either, and its own slots, rounds and reports. What the other drive sees is the same with the records exchanged. An open or a
--- read that is done gives both drives its record, and begins a history of its own.
+-- Histories of the calls for two drives on one board, as one of the drives sees them, and the plain history of that drive that they stand for: the
+-- orders that either drive's calls carry out, the fresh layouts of either, and its own slots, rounds and reports. What the other drive sees is the
+-- same with the records exchanged. An open or a read that is done gives both drives its record, and begins a history of its own.
 -- Assumes nothing.
 use mathlib.Core.Path.{_≡_}
 use mathlib.Core.Bool.{Bool, false, cond, _&&_}
-use mathlib.Core.List.{List, [], _∷_, _++_, map}
+use mathlib.Core.List.{List, [], _∷_, _++_}
 use Prim.Native.Nat.{ℕ}
 use lib.Dec.{eqb}
 use lib.ListN.{length, getD}
+use Rattle.calls.specs.Refusals.{isClear}
 use Rattle.calls.specs.declared.Drive.{Drive}
 use Rattle.calls.specs.declared.Check.{Check}
 use Rattle.calls.specs.Answers.{Answer}
@@ -20,10 +21,11 @@ use Rattle.orders.specs.declared.Way.the-variants as way
 use Rattle.orders.specs.Results.{addOrder, removeOrder}
 use Rattle.drives.specs.Checks.{listCheck, lookCheck, bothStart, wayOf, pairSaveCheck, pairPiecesCheck, pairFreshCheck}
 use Rattle.drives.specs.Results.{changed, changedAnswer, changedBoard, changedList, served, servedAnswer, servedBoard, servedList, rounded, roundedAnswer, reported, reportedAnswer, savedBy, savedAnswerBy, refreshed, refreshedAnswer, refreshedBoard}
-use Rattle.amended.specs.Histories.{through, along, Each}
+pub use Rattle.amended.specs.Histories.{Own, Other, turned, turnedAll, Which, This, That}
+use Rattle.amended.specs.Histories.{through, along, Each, TurnOf}
 use Rattle.amended.specs.Carried.{actsOf}
 use Rattle.amended.specs.Deeds as one
-use Rattle.amended.specs.Deeds.{Sheets, Leaves, Pieces, formOf, Deed, Opens, Reads, Adds, Removes, Slots, Rounds, Reports, Saves, Fetches, Refreshes, Desk, desk, isClear, ticketIn}
+use Rattle.amended.specs.Deeds.{Sheets, Leaves, Pieces, formOf, Deed, Opens, Reads, Adds, Removes, Slots, Rounds, Reports, Saves, Fetches, Refreshes, Desk, desk, ticketIn}
 
 -- The records, the board and the list between two calls: a drive's own record first.
 pub record Pair : Type 0 where
@@ -36,11 +38,7 @@ pub record Pair : Type 0 where
 abbrev pub exchanged : Pair → Pair
 exchanged s = record { own = s .other; other = s .own; board = s .board; list = s .list }
 
--- One of the two drives, and what it sees.
-pub data Which : Type 0 where
-  This : Which
-  That : Which
-
+-- What one of the two sees.
 abbrev pub seenBy : Which → Pair → Pair
 seenBy This s = s
 seenBy That s = exchanged s
@@ -156,9 +154,8 @@ leavesOwn a s = record { own = ownAfter a s; other = otherAfter a s; board = boa
 
 -- ---- a call of either drive
 
-pub data Turn : Type 0 where
-  Own : Deed → Turn
-  Other : Deed → Turn
+abbrev pub Turn : Type 0
+Turn = TurnOf Deed
 
 abbrev pub answers : Turn → Pair → Answer
 answers (Own a) s = answersOwn a s
@@ -171,14 +168,6 @@ leaves (Other a) s = exchanged (leavesOwn a (exchanged s))
 -- After calls of both, each given the last record of both drives, and the board and the list as the last one left them.
 abbrev pub leavesAll : Pair → List Turn → Pair
 leavesAll s turns = through leaves s turns
-
--- The same calls as the other drive sees them.
-abbrev pub turned : Turn → Turn
-turned (Own a) = Other a
-turned (Other a) = Own a
-
-abbrev pub turnedAll : List Turn → List Turn
-turnedAll turns = map turned turns
 
 -- ---- the plain history of the own drive
 

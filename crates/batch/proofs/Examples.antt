@@ -4,7 +4,7 @@ use mathlib.Core.Path.{_≡_, refl}
 use mathlib.Core.List.{List, [], _∷_, map}
 use Prim.Native.Nat.{ℕ, zero, suc}
 use lib.ListN.{replicate, take}
-use Rattle.sequences.specs.Board.{digits}
+use Rattle.sequences.specs.SlotOrder.{digits}
 use Rattle.pieces.specs.Board.{uniform, whole, pieces, weight, nth, single, sound, sum}
 use Rattle.pieces.specs.Placing.{fill, first, fit, spot, put, place}
 use Rattle.pieces.specs.Tidying.{copy, move, twin, join, pair, step, tidy, clear}

@@ -1,7 +1,6 @@
 -- The laws of a table of changes that upper crates cite: it is what the single calls are, in that order, for two drives and for one; no second result fits; a
 -- kind that is none is answered 7 and changes nothing; an entry's question stays, and so does the record; a refused entry does not stop the rest; a table
--- may be carried out in parts.
--- Assumes nothing.
+-- may be carried out in parts. Assumes nothing.
 use mathlib.Core.Path.{_≡_, refl, sym, ap, subst, _∙_}
 use mathlib.Core.List.{List, [], _∷_, _++_, map}
 use Prim.Native.Nat.{ℕ}
@@ -13,13 +12,11 @@ use Rattle.calls.specs.Answers.{Answer}
 use Rattle.waiting.specs.declared.Order.{Order}
 use Rattle.orders.specs.declared.Ordered.{Ordered}
 use Rattle.orders.specs.Answers.{orderingAnswer}
-use Rattle.orders.specs.declared.Way.{Way}
-use Rattle.orders.specs.declared.Way.the-variants as way
-use Rattle.orders.specs.Results.{addOrder, removeOrder, changedBy, changedAnswerBy}
+use Rattle.orders.specs.Results.{addOrder, removeOrder}
 use Rattle.orders.specs.Checks as one-checks
 use Rattle.orders.specs.Results as one-results
 use Rattle.orders.specs.Promises as one
-use Rattle.orders.proofs.Laws.{made-says, taken-says}
+use Rattle.orders.proofs.Laws.{change-says}
 use Rattle.drives.specs.Checks.{wayOf}
 use Rattle.drives.specs.Results.{changed, changedBoard, changedList}
 use Rattle.drives.specs.Promises.{Orders}
@@ -79,7 +76,7 @@ batch-singles b {a} {B = B} {L} (skips {e = e} {T} j k q) = batch-next a b B L e
 
 -- ---- there are such calls for every table: a promise that can be kept can be kept again and again
 
-by-kind : (e : Entry) {P : Type 0} → (e .kind ≡ 1 → P) → (e .kind ≡ 2 → P) → ((e .kind ≡ 1 → ⊥) → (e .kind ≡ 2 → ⊥) → P) → P
+pub by-kind : (e : Entry) {P : Type 0} → (e .kind ≡ 1 → P) → (e .kind ≡ 2 → P) → ((e .kind ≡ 1 → ⊥) → (e .kind ≡ 2 → ⊥) → P) → P
 by-kind e f g h = by-bool (eqb (e .kind) 1)
     (λ t. f (eqb-true (e .kind) 1 t))
     (λ n. by-bool (eqb (e .kind) 2) (λ t. g (eqb-true (e .kind) 2 t)) (λ m. h (eqb-false (e .kind) 1 n) (eqb-false (e .kind) 2 m)))
@@ -94,11 +91,6 @@ module _ (P : Promise) (kept : (d : Drive) (B L : List ℕ) (o : Order) → (r :
       (λ k. let c = kept d B L (addOrder (e .name) (e .weight)) in let q = leads (c .0 .drive) (c .1) (c .2) T in (q .0, q .1, q .2, _, adds k (c .3) (q .4)))
       (λ k. let c = kept d B L (removeOrder (e .name)) in let q = leads (c .0 .drive) (c .1) (c .2) T in (q .0, q .1, q .2, _, removes k (c .3) (q .4)))
       (λ j k. let q = leads d B L T in (q .0, q .1, q .2, _, skips j k (q .4)))
-
-change-says : (k : Way) (d : Drive) (B L : List ℕ) (o : Order) → orderingAnswer (changedBy k d B L o .answer) ≡ changedAnswerBy k d B L o
-change-says (way.Refused r) d B L o = refl
-change-says way.Wait d B L o = taken-says L
-change-says way.Now d B L o = made-says d B o
 
 changes : (a b : Drive) (B L : List ℕ) (o : Order) → Orders a b B L o (changed a b B L o) (changedBoard a b B L o) (changedList a b B L o)
 changes a b B L o = (refl, change-says (wayOf a b B L o) a B L o, refl, refl)

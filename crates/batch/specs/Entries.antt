@@ -25,12 +25,12 @@ abbrev pub byKind : {A : Type 0} → ℕ → A → A → A → A
 byKind kind add remove none = cond (eqb kind 1) add (cond (eqb kind 2) remove none)
 
 -- A kind that is none is answered 7, whatever else is wrong.
-abbrev pub unknown : Drive → Ordered
-unknown a = record { drive = a; answer = ordering.Refused Weight }
+abbrev pub unknownKind : Drive → Ordered
+unknownKind a = record { drive = a; answer = ordering.Refused Weight }
 
 -- What the single call returns, and what it leaves of the board and of the list.
 unfoldable pub ordered : Drive → Drive → List ℕ → List ℕ → Entry → Ordered
-ordered a b B L e = byKind (e .kind) (changed a b B L (addOrder (e .name) (e .weight))) (changed a b B L (removeOrder (e .name))) (unknown a)
+ordered a b B L e = byKind (e .kind) (changed a b B L (addOrder (e .name) (e .weight))) (changed a b B L (removeOrder (e .name))) (unknownKind a)
 
 unfoldable pub orderedBoard : Drive → Drive → List ℕ → List ℕ → Entry → List ℕ
 orderedBoard a b B L e = byKind (e .kind) (changedBoard a b B L (addOrder (e .name) (e .weight))) (changedBoard a b B L (removeOrder (e .name))) B

@@ -1,5 +1,4 @@
--- What add answers and leaves, by what its checks before room find and by what admitting says.
--- Assumes nothing.
+-- What add answers and leaves, by what its checks before room find and by what admitting says. Assumes nothing.
 use mathlib.Core.Path.{_≡_, refl, sym, ap, _∙_}
 use mathlib.Core.Bool.{false}
 use mathlib.Core.List.{List}

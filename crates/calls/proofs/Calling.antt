@@ -1,22 +1,20 @@
 -- What holds of every call, whatever it is given and lent: no second answer fits its promise, a refusal leaves everything as it was, and only the numbers
--- of its list are answered. The laws of each set of calls are instances.
--- Assumes nothing.
+-- of its list are answered. The laws of each set of calls are instances. Assumes nothing.
 use mathlib.Core.Path.{_≡_, refl, sym, ap, _∙_}
 use mathlib.Core.Bool.{Bool, true, false, _&&_, or-true}
 use mathlib.Core.List.{List, [], _∷_}
 use Prim.Native.Nat.{ℕ}
 use lib.Dec.{eqb}
-use lib.ListN.{getD}
+use lib.ListN.{getD, length}
 use borrow.Author.Tests.{eq-eqb, eqb-true}
 use Rattle.general.proofs.Laws.{clash, both, by-bool}
 use Rattle.calls.specs.declared.Refusal.{Refusal}
 use Rattle.calls.specs.declared.Refusal.the-variants.{Capacity, Short, Position, Midround, Damaged, Name, Weight, Taken, Absent, Room, Output, Block}
 use Rattle.calls.specs.declared.Check.{Check}
 use Rattle.calls.specs.declared.Check.the-variants.{Clear, Refused}
-use Rattle.calls.specs.Refusals.{Asked, numberOf, applies, firstOf, refuseIf, andThen, zeroOr, numbers, among}
+use Rattle.calls.specs.Refusals.{Asked, numberOf, applies, firstOf, refuseIf, andThen, isClear, zeroOr, numbers, among}
 use Rattle.calls.specs.Answers.{Answer, numberBy}
-
--- ---- no second answer fits: each part of a promise is an equation
+use Rattle.calls.specs.Results.{ifClear}
 
 -- ---- the numbers of the table: none is 0, and each tells its refusal
 
@@ -50,6 +48,24 @@ number-tells r q e = sym (numbered r .0) ∙ ap refusalOf e ∙ numbered q .0
 pub clear-number : (k : Check) → numberBy k ≡ 0 → k ≡ Clear
 clear-number Clear e = refl
 clear-number (Refused r) e = clash (eq-eqb (numberOf r) 0 e) (number-some r)
+
+-- by the test: checks that are clear found nothing, and others a refusal
+pub is-clear : (k : Check) → isClear k ≡ true → k ≡ Clear
+is-clear Clear e = refl
+is-clear (Refused r) e = clash e refl
+
+pub not-clear : (k : Check) → isClear k ≡ false → (r : Refusal) × (k ≡ Refused r)
+not-clear Clear e = clash refl e
+not-clear (Refused r) e = (r, refl)
+
+-- what a call leaves, whatever its checks find, where both are alike
+pub either-same : (k : Check) (X : List ℕ) → ifClear k X X ≡ X
+either-same Clear X = refl
+either-same (Refused r) X = refl
+
+pub either-length : (k : Check) (D B : List ℕ) → length D ≡ length B → length (ifClear k D B) ≡ length B
+either-length Clear D B h = h
+either-length (Refused r) D B h = refl
 
 -- an answer that refuses: its number is not 0
 abbrev pub Refuses : Answer → Type 0

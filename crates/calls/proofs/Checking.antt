@@ -1,5 +1,4 @@
--- The checks of a call: a list of refusals is looked through part by part, and what is known once no refusal of it applies.
--- Assumes nothing.
+-- The checks of a call: a list of refusals is looked through part by part, and what is known once no refusal of it applies. Assumes nothing.
 use mathlib.Core.Path.{_≡_, refl, sym, _∙_}
 use mathlib.Core.Bool.{Bool, true, false, not}
 use mathlib.Core.List.{List, [], _∷_, _++_}
@@ -10,8 +9,8 @@ use lib.ListN.{length}
 use lib.Pow.{pow-pos}
 use borrow.Author.Tests.{eqb-true, eqb-false, ne-eqb, ltb-false, le-ltb, not-false}
 use Rattle.general.proofs.Laws.{neither}
-use Rattle.sequences.specs.Board as sequences
-use Rattle.sequences.proofs.Laws.{digits-small, shift-exact}
+use Rattle.sequences.specs.SlotOrder as sequences
+use Rattle.sequences.proofs.Laws.{digits-lt, digits-small, shift-exact}
 use Rattle.pieces.specs.Board.{good, weight}
 use Rattle.pieces.specs.Placing.{Placeable, Admissible}
 use Rattle.pieces.specs.Tidying.{Removable}
@@ -22,6 +21,7 @@ use Rattle.calls.specs.declared.Refusal.the-variants.{Position, Midround
 use Rattle.calls.specs.declared.Check.{Check}
 use Rattle.calls.specs.declared.Check.the-variants.{Clear, Refused}
 use Rattle.calls.specs.Refusals.{Asked, applies, refuseIf, firstOf, asked, openCheck, addCheck, admitCheck, removeCheck, slotCheck, changeCheck, roundCheck, reportCheck, positionCheck, goodCheck, heldCheck, newCheck, askedOpen, askedAdd, askedName, askedOutput, openMay, addMay, admitMay, removeMay, slotMay, changeMay, roundMay, reportMay, andThen}
+use Rattle.calls.specs.Records.{driveAt}
 
 -- 1 shifted by the digits of a capacity
 pub record Order (C : ℕ) : Type 0 where
@@ -75,8 +75,7 @@ module _ (d : Drive) (B : List ℕ) where
 
   pub report-parts : (x : ℕ) → reportCheck d B x ≡ andThen (slotCheck d B) (andThen (goodCheck (d .capacity) B) (heldCheck (d .capacity) B x))
   unfolding reportCheck slotCheck goodCheck heldCheck
-  report-parts x =
-      first-next slotMay (Damaged ∷ Name ∷ Absent ∷ []) (askedName d B x)
+  report-parts x = first-next slotMay (Damaged ∷ Name ∷ Absent ∷ []) (askedName d B x)
       ∙ rw (first-next (Damaged ∷ []) (Name ∷ Absent ∷ []) (askedName d B x))
 
 -- two parts find nothing where each does
@@ -128,6 +127,19 @@ open-sized C B s =
     let nonzero : C ≡ 0 → ⊥ = λ e. omega (arith, s .some) in
     rw (ne-eqb C 0 nonzero, le-ltb 4095 C (s .few), le-ltb (length B) C (s .long))
 
+-- the position where a round starts is in range
+pub position-first : (C : ℕ) → 0 < C → positionCheck C 1 ≡ Clear
+unfolding positionCheck
+position-first C some = rw (le-ltb (2 ^ sequences.digits C - 1) 1 (omega (arith, digits-lt C)))
+
+pub slot-first : (C : ℕ) (B : List ℕ) → Sized C B → slotCheck (driveAt C 1) B ≡ Clear
+slot-first C B is = slot-parts (driveAt C 1) B ∙ rw (open-sized C B is) (position-first C (is .some))
+
+-- the checks of a slot look at no leaf
+pub slot-long : (d : Drive) (B D : List ℕ) → length D ≡ length B → slotCheck d B ≡ Clear → slotCheck d D ≡ Clear
+unfolding slotCheck
+slot-long d B D e h = rw e h
+
 module _ (d : Drive) (B : List ℕ) where
   pub slot-sized : slotCheck d B ≡ Clear → Sized (d .capacity) B
   slot-sized e = open-clear (d .capacity) B (first-clear _ _ (sym (slot-parts d B) ∙ e))
@@ -148,8 +160,7 @@ module _ (d : Drive) (B : List ℕ) where
 
   pub change-start : changeCheck d B ≡ Clear → d .position ≡ 1
   unfolding changeCheck Passed
-  change-start e =
-      eqb-true (d .position) 1 (not-false (eqb (d .position) 1) (passed changeMay (asked d B) e .1 .1 .1 .0))
+  change-start e = eqb-true (d .position) 1 (not-false (eqb (d .position) 1) (passed changeMay (asked d B) e .1 .1 .1 .0))
 
   pub change-good : changeCheck d B ≡ Clear → good (d .capacity) B ≡ true
   unfolding changeCheck Passed

@@ -1,18 +1,18 @@
 -- A round by its halves, slot by slot (`round-halves` of sequences). Of the first C / 2 ^ k slots the second half serves the leaves of the first,
--- each 2 ^ k leaves further on; where their number is odd, one slot stands between the halves.
--- Assumes nothing.
+-- each 2 ^ k leaves further on; where their number is odd, one slot stands between the halves. Assumes nothing.
 use mathlib.Core.Path.{_≡_, refl, sym, ap, _∙_, subst}
-use mathlib.Core.List.{List, [], _∷_, _++_, map}
+use mathlib.Core.List.{List, _++_, map}
 use Prim.Native.Nat.{ℕ, zero, suc, _+_, _-_, _*_, _/_, _%_, _^_, _≤_, _<_}
-use native.Mathlib.Nat.{not-suc-le-zero, le-of-suc-le-suc, add-mul, mul-assoc, mul-comm, zero-mul, one-mul, div-one, div-le-self, div-eq-of-lt-le}
+use native.Mathlib.Nat.{add-mul, mul-assoc, mul-comm, zero-mul, one-mul, div-one, div-le-self, div-eq-of-lt-le}
 use native.Mathlib.Numerals.{add-one}
 use native.Mathlib.Omega.{arith}
 use lib.ListN.{length, getD, replicate, length-map, length-replicate, List·getD-append}
 use lib.Pow.{shr-shr}
 use lib.Seq.{getD-append-add}
-use Rattle.sequences.specs.Board.{digits, leafAt, servedFrom, Position}
+use Rattle.general.proofs.Laws.{map-at}
+use Rattle.sequences.specs.SlotOrder.{digits, leafAt, servedFrom, Position}
 use Rattle.sequences.specs.Serving.{leavesFrom, afterSlots}
-use Rattle.sequences.proofs.Laws.{digits-lt, digits-le, shift-exact, first-position, leaf-below, after-slots-valid, leaves-length, leaves-at, round-halves}
+use Rattle.sequences.proofs.Laws.{digits-lt, digits-le, shift-exact, first-position, leaf-below, after-slots-valid, leaves-length, leaves-at, round-halves, digits-pos}
 
 -- the leaf of slot s of a round, counted from 0
 abbrev pub slotLeaf : ℕ → ℕ → ℕ
@@ -22,11 +22,6 @@ pub slot-below : (C s : ℕ) → Position C 1 → slotLeaf C s < C
 slot-below C s at = leaf-below C (afterSlots C 1 s) (after-slots-valid C 1 s at)
 
 -- ---- entries of lists
-
-map-at : (f : ℕ → ℕ) (xs : List ℕ) (i : ℕ) → i < length xs → getD (map f xs) i 0 ≡ f (getD xs i 0)
-map-at f [] i h = absurd (not-suc-le-zero h)
-map-at f (x ∷ xs) zero h = refl
-map-at f (x ∷ xs) (suc i) h = map-at f xs i (le-of-suc-le-suc h)
 
 pub past : (xs ys : List ℕ) (n i : ℕ) → length xs ≡ n → getD (xs ++ ys) (n + i) 0 ≡ getD ys i 0
 past xs ys n i e = subst (λ (k : ℕ). getD (xs ++ ys) (k + i) 0 ≡ getD ys i 0) e (getD-append-add xs ys i 0)
@@ -47,19 +42,16 @@ module _ (n b : ℕ) (some : zero < n) (odd : b < 2) (few : 2 * n + b < 4096) wh
   halves s h = sym (leaves-at (2 * n + b) 1 (2 * n + b) s h) ∙ ap (λ (L : List ℕ). getD L s 0) (round-halves n b some odd few)
 
   first-half : (s : ℕ) → s < n → slotLeaf (2 * n + b) s ≡ 2 * slotLeaf n s
-  first-half s h =
-      halves s (omega arith)
+  first-half s h = halves s (omega arith)
       ∙ List·getD-append (map (λ i. 2 * i) R) (replicate b (2 * n) ++ map (λ i. 2 * i + 1) R) 0 s (rw (mapped-length (λ i. 2 * i)) h)
       ∙ on (λ i. 2 * i) s h
 
   after-first : (s : ℕ) → s < n + b → slotLeaf (2 * n + b) (n + s) ≡ getD (replicate b (2 * n) ++ map (λ i. 2 * i + 1) R) s 0
-  after-first s h =
-      halves (n + s) (omega arith)
+  after-first s h = halves (n + s) (omega arith)
       ∙ past (map (λ i. 2 * i) R) (replicate b (2 * n) ++ map (λ i. 2 * i + 1) R) n s (mapped-length (λ i. 2 * i))
 
   second-half : (s : ℕ) → s < n → slotLeaf (2 * n + b) (n + (b + s)) ≡ 2 * slotLeaf n s + 1
-  second-half s h =
-      after-first (b + s) (omega arith)
+  second-half s h = after-first (b + s) (omega arith)
       ∙ past (replicate b (2 * n)) (map (λ i. 2 * i + 1) R) b s (length-replicate b (2 * n))
       ∙ on (λ i. 2 * i + 1) s h
 
@@ -71,12 +63,6 @@ one-leaf = refl
 
 pub halved : (C k : ℕ) → C / 2 ^ suc k ≡ C / 2 ^ k / 2
 halved C k = sym (shr-shr C k 1 ∙ ap (λ (x : ℕ). C / 2 ^ x) (add-one k))
-
-pub some-digit : (C : ℕ) → zero < C → zero < digits C
-some-digit C some =
-    let hi = digits-lt C in
-    let z : (digits C ≡ 0 → ⊥) = λ e. let h = rw e at hi in omega arith in
-    omega arith
 
 module _ (C : ℕ) (at : Position C 1) where
   -- the first slots serve the leaves of the smaller round, 2 ^ k times as far on
@@ -102,7 +88,7 @@ module _ (C : ℕ) (at : Position C 1) where
       let lo = digits-le C (at .some) in
       let hi = digits-lt C in
       let k = digits C - 1 in
-      let s = some-digit C (at .some) in
+      let s = digits-pos C (at .some) in
       let p : 2 ^ digits C ≡ 2 * 2 ^ k = ap (λ (x : ℕ). 2 ^ x) (let q : digits C ≡ suc k = omega arith in q) ∙ (omega arith) in
       div-eq-of-lt-le (2 ^ k) (omega arith) (omega arith)
 

@@ -1,22 +1,21 @@
 -- The laws of the calls that document 01 asks for and upper crates cite: no second answer, record or slice fits a promise; a refusal leaves everything as it
--- was; a call answers only what it may; a round tells the whole board; what the spacing of a stream is.
--- Assumes nothing.
+-- was; a call answers only what it may; a round tells the whole board; what the spacing of a stream is. Assumes nothing.
 use mathlib.Core.Path.{_≡_, refl, sym, ap, subst, _∙_}
 use mathlib.Core.Bool.{Bool, true, _&&_}
 use mathlib.Core.List.{List, [], _∷_, map}
 use Prim.Native.Nat.{ℕ, zero, suc, _/_, _%_, _^_, _≤_, _<_}
 use native.Mathlib.Decide.{decLt}
-use native.Mathlib.Nat.{le-refl, zero-add}
+use native.Mathlib.Nat.{le-refl}
 use native.Mathlib.Omega.{arith}
 use lib.Dec.{eqb, ltb}
 use lib.ListN.{length, getD}
 use borrow.Author.Tests.{eq-eqb, ne-eqb, eqb-true, ltb-true, le-ltb}
 use Rattle.general.proofs.Laws.{unique, both, by-bool}
-use Rattle.sequences.specs.Board.{leafAt, servedFrom, nextFrom, Position}
+use Rattle.sequences.specs.SlotOrder.{leafAt, servedFrom, nextFrom, Position}
 use Rattle.sequences.specs.Serving.{countList, leavesFrom}
 use Rattle.sequences.proofs.Laws.{first-position, leaf-below, next-position, round-once}
-use Rattle.pieces.specs.Board.{good, weight, number}
-use Rattle.pieces.specs.Placing.{Placeable, fill, placed}
+use Rattle.pieces.specs.Board.{good, weight, pieceCount}
+use Rattle.pieces.specs.Placing.{Placeable, placed}
 use Rattle.pieces.specs.Tidying as tidying
 use Rattle.pieces.specs.Fresh.{fresh}
 use Rattle.pieces.proofs.Laws.{placed-length, placed-good, placed-weight, removed-length, removed-good, removed-name, fresh-length, fresh-good, fresh-weights, fresh-same, fresh-again}
@@ -25,29 +24,28 @@ use Rattle.calls.specs.declared.Refusal.{Refusal}
 use Rattle.calls.specs.declared.Refusal.the-variants.{Room}
 use Rattle.calls.specs.declared.Check.{Check}
 use Rattle.calls.specs.declared.Check.the-variants.{Clear, Refused}
+use Rattle.calls.specs.declared.Checked.{Checked}
 use Rattle.calls.specs.declared.Change.the-variants as change
-use Rattle.calls.specs.declared.Opened.{Opened}
 use Rattle.calls.specs.declared.Changed.{Changed}
 use Rattle.calls.specs.declared.Served.{Served}
-use Rattle.calls.specs.declared.Rounded.{Rounded}
-use Rattle.calls.specs.declared.Refreshed.{Refreshed}
 use Rattle.calls.specs.declared.Reported.{Reported}
 use Rattle.calls.specs.Records.{driveAt}
 use Rattle.calls.specs.Refusals.{Asked, numberOf, applies, firstOf, zeroOr, numbers, among, openMay, addMay, removeMay, slotMay, roundMay, reportMay, changeMay, askedOpen, askedAdd, askedName, asked, askedOutput, openCheck, addCheck, removeCheck, slotCheck, changeCheck, roundCheck, reportCheck, goodCheck, newCheck}
-use Rattle.calls.specs.Answers.{Answer, beside, openingAnswer, changeAnswer, servingAnswer, roundingAnswer, refreshingAnswer, reportAnswer}
-use Rattle.calls.specs.Results.{idleBoard, ifClear, changeBy, admittedBy, openedAnswer, addedIdle, addedAnswer, addedBoard, removedIdle, removedAnswer, removedBoard, refreshedAnswer, refreshedBoard, servedAnswer, slotNames, roundNames, roundedAnswer, reportedSpacing, reportedAnswer}
+use Rattle.calls.specs.Answers.{Answer, beside, checkAnswer, changeAnswer, servingAnswer, reportAnswer}
+use Rattle.calls.specs.Results.{ifClear, changeBy, admittedBy, openedAnswer, addedIdle, addedAnswer, addedBoard, removedIdle, removedAnswer, removedBoard, refreshedAnswer, refreshedBoard, servedAnswer, slotNames, roundNames, roundedAnswer, reportedSpacing, reportedAnswer}
 use Rattle.calls.proofs.Checking.{change-parts, change-slot, change-start, add-change, add-clear, add-weight, remove-change, remove-clear, remove-held}
 use Rattle.calls.proofs.Calling.{Refuses, refuses, refusal, may, first-within, first-among, never-within}
 use Rattle.calls.specs.Spacing.{roundedUp}
 use Rattle.calls.proofs.Spaced as spaced
 use Rattle.calls.proofs.Checking.{admit-parts}
-use Rattle.calls.proofs.Writing.{idle-none, idle-next}
 use Rattle.calls.specs.Promises.{Opens, Adds, Removes, Refreshes, Serves, Rounds, Reports}
 -- ---- what is known once the checks of a call are clear
 
 unfoldable pub use Rattle.calls.proofs.Checking.{Passed}
-pub use Rattle.calls.proofs.Checking.{Sized, passed, first-next, first-clear, then-clear, then-none, refuse-clear, open-clear, open-sized, slot-sized, slot-parts, change-parts, slot-position, change-slot, change-start, change-good, admit-change, admit-clear, add-parts, remove-parts, add-change, add-weight, add-clear, remove-change, remove-held, remove-clear, round-slot, round-room, report-slot, report-good, report-held}
+pub use Rattle.calls.proofs.Checking.{Sized, count-small, passed, first-next, first-clear, then-clear, then-none, refuse-clear, open-clear, open-sized, slot-sized, slot-parts, slot-long, position-first, slot-first, change-parts, slot-position, change-slot, change-start, change-good, admit-change, admit-clear, add-parts, remove-parts, add-change, add-weight, add-clear, remove-change, remove-held, remove-clear, round-slot, round-room, report-slot, report-good, report-held}
 pub use Rattle.calls.proofs.Admitting.{add-full}
+-- an opened board is one with its leaves idle
+pub use Rattle.calls.proofs.Writing.{idle-opened}
 -- ---- spacing: the longest wait from one serve to the next (document 02, request No. 1)
 
 -- Over the names of any round: it is the largest distance around the circle of the round; the round is no more than as many times the spacing as the name is
@@ -58,7 +56,7 @@ pub use Rattle.calls.proofs.Spaced.{leaves-times, names-times, two-roun
 -- ---- what holds of every call
 
 unfoldable pub use Rattle.calls.proofs.Calling.{covers}
-pub use Rattle.calls.proofs.Calling.{number-some, number-tells, clear-number, Refuses, refuses, refusal, Within, within-among, may, first-within, first-among, then-within, if-within, part-within, other-number, never-within}
+pub use Rattle.calls.proofs.Calling.{number-some, number-tells, clear-number, is-clear, not-clear, either-same, either-length, Refuses, refuses, refusal, Within, within-among, may, first-within, first-among, then-within, if-within, part-within, other-number, never-within}
 
 -- ---- "the lowest number that applies is answered"
 
@@ -113,17 +111,17 @@ changed-tells (Refused r) idle n e = let g : r ≡ Room = cc in n (rw g refl)
 -- ---- open
 
 module _ (C : ℕ) (B : List ℕ) where
-  pub open-unique : {r s : Opened} {E F : List ℕ} → Opens C B r E → Opens C B s F → (r ≡ s) × (E ≡ F)
+  pub open-unique : {r s : Checked} {E F : List ℕ} → Opens C B r E → Opens C B s F → (r ≡ s) × (E ≡ F)
   open-unique p q = (unique (p .0) (q .0), unique (p .2) (q .2))
 
-  pub open-refused : {r : Opened} {E : List ℕ} → Opens C B r E → Refuses (openingAnswer (r .answer)) → (r .drive ≡ driveAt 0 0) × (E ≡ B)
+  pub open-refused : {r : Checked} {E : List ℕ} → Opens C B r E → Refuses (checkAnswer (r .answer)) → (r .drive ≡ driveAt 0 0) × (E ≡ B)
   open-refused p h = rw (p .0, p .2, refusal (openCheck C B) (refuses (p .1) h) .1) (refl, refl)
 
   pub open-answers : among (openedAnswer C B .number) openMay ≡ true
   unfolding openCheck
   open-answers = first-among openMay (askedOpen C B)
 
-  pub open-may : {r : Opened} {E : List ℕ} → Opens C B r E → among (openingAnswer (r .answer) .number) openMay ≡ true
+  pub open-may : {r : Checked} {E : List ℕ} → Opens C B r E → among (checkAnswer (r .answer) .number) openMay ≡ true
   open-may p = may openMay (p .1) open-answers
 
 -- ---- add
@@ -165,8 +163,7 @@ module _ (d : Drive) (B : List ℕ) (x : ℕ) where
 
   pub remove-tells : {r : Changed} {E : List ℕ} → Removes d B x r E → r .answer ≡ change.Refused Room → ⊥
   unfolding removeCheck zeroOr
-  remove-tells p e =
-      changed-tells (removeCheck d B x) (removedIdle d B x)
+  remove-tells p e = changed-tells (removeCheck d B x) (removedIdle d B x)
       (never-within (numbers removeMay) (removeCheck d B x) Room (first-within removeMay (askedName d B x)) refl)
       (ap (λ (r : Changed). r .answer) (sym (p .0)) ∙ e)
 
@@ -180,17 +177,17 @@ module _ (d : Drive) (B : List ℕ) (x : ℕ) where
 -- ---- the fresh layout
 
 module _ (d : Drive) (B : List ℕ) where
-  pub fresh-unique : {r s : Refreshed} {E F : List ℕ} → Refreshes d B r E → Refreshes d B s F → (r ≡ s) × (E ≡ F)
+  pub fresh-unique : {r s : Checked} {E F : List ℕ} → Refreshes d B r E → Refreshes d B s F → (r ≡ s) × (E ≡ F)
   fresh-unique p q = (unique (p .0) (q .0), unique (p .2) (q .2))
 
-  pub fresh-refused : {r : Refreshed} {E : List ℕ} → Refreshes d B r E → Refuses (refreshingAnswer (r .answer)) → (r .drive ≡ d) × (E ≡ B)
+  pub fresh-refused : {r : Checked} {E : List ℕ} → Refreshes d B r E → Refuses (checkAnswer (r .answer)) → (r .drive ≡ d) × (E ≡ B)
   fresh-refused p h = rw (p .0, p .2, refusal (changeCheck d B) (refuses (p .1) h) .1) (refl, refl)
 
   pub fresh-answers : among (refreshedAnswer d B .number) changeMay ≡ true
   unfolding changeCheck
   fresh-answers = first-among changeMay (asked d B)
 
-  pub fresh-may : {r : Refreshed} {E : List ℕ} → Refreshes d B r E → among (refreshingAnswer (r .answer) .number) changeMay ≡ true
+  pub fresh-may : {r : Checked} {E : List ℕ} → Refreshes d B r E → among (checkAnswer (r .answer) .number) changeMay ≡ true
   fresh-may p = may changeMay (p .1) fresh-answers
 
 -- ---- slot
@@ -212,17 +209,17 @@ module _ (d : Drive) (B : List ℕ) where
 -- ---- round
 
 module _ (d : Drive) (B O : List ℕ) where
-  pub round-unique : {r s : Rounded} {E F : List ℕ} → Rounds d B O r E → Rounds d B O s F → (r ≡ s) × (E ≡ F)
+  pub round-unique : {r s : Checked} {E F : List ℕ} → Rounds d B O r E → Rounds d B O s F → (r ≡ s) × (E ≡ F)
   round-unique p q = (unique (p .0) (q .0), unique (p .2) (q .2))
 
-  pub round-refused : {r : Rounded} {E : List ℕ} → Rounds d B O r E → Refuses (roundingAnswer (r .answer)) → (r .drive ≡ d) × (E ≡ O)
+  pub round-refused : {r : Checked} {E : List ℕ} → Rounds d B O r E → Refuses (checkAnswer (r .answer)) → (r .drive ≡ d) × (E ≡ O)
   round-refused p h = rw (p .0, p .2, refusal (roundCheck d B (length O)) (refuses (p .1) h) .1) (refl, refl)
 
   pub round-answers : among (roundedAnswer d B O .number) roundMay ≡ true
   unfolding roundCheck
   round-answers = first-among roundMay (askedOutput d B (length O) (d .capacity))
 
-  pub round-may : {r : Rounded} {E : List ℕ} → Rounds d B O r E → among (roundingAnswer (r .answer) .number) roundMay ≡ true
+  pub round-may : {r : Checked} {E : List ℕ} → Rounds d B O r E → among (checkAnswer (r .answer) .number) roundMay ≡ true
   round-may p = may roundMay (p .1) round-answers
 
 -- ---- report
@@ -247,8 +244,7 @@ module _ (d : Drive) (B : List ℕ) where
   -- they find nothing on another board of that length that is good
   good-again : (D : List ℕ) → length D ≡ length B → good (d .capacity) D ≡ true → changeCheck d B ≡ Clear → changeCheck d D ≡ Clear
   unfolding slotCheck goodCheck
-  good-again D long fine e =
-      change-parts d D ∙ rw (long, change-slot d B e, change-start d B e, fine) refl
+  good-again D long fine e = change-parts d D ∙ rw (long, change-slot d B e, change-start d B e, fine) refl
 
   pub add-keeps : (x w : ℕ) → changeCheck d (addedBoard d B x w) ≡ changeCheck d B
   add-keeps x w = go (addCheck d B x w) refl
@@ -273,8 +269,7 @@ module _ (d : Drive) (B : List ℕ) where
   -- an add that can be placed passes its checks where these pass
   pub add-passes : (x w : ℕ) → changeCheck d B ≡ Clear → Placeable (d .capacity) B x w → 0 < w → addCheck d B x w ≡ Clear
   unfolding newCheck
-  add-passes x w e may some =
-      add-parts d B x w
+  add-passes x w e may some = add-parts d B x w
       ∙ rw (
         admit-parts d B x w,
         e,
@@ -361,12 +356,6 @@ remove-shows d B x e r =
 
 -- ---- what the fresh layout does
 
--- An opened board is one with its leaves idle.
-pub idle-opened : (n : ℕ) (B : List ℕ) → n ≤ length B → fill B 0 n 0 ≡ idleBoard n B
-unfolding fill
-idle-opened zero B h = idle-none B
-idle-opened (suc n) B h = rw (zero-add n, idle-opened n B (omega arith)) (idle-next B n h)
-
 module _ (d : Drive) (B : List ℕ) where
   -- Every stream keeps its weight, and as many leaves are idle.
   pub fresh-held : (x : ℕ) → weight (d .capacity) (refreshedBoard d B) x ≡ weight (d .capacity) B x
@@ -421,7 +410,7 @@ module _ (d : Drive) (B : List ℕ) (x : ℕ) (clear : reportCheck d B x ≡ Cle
   report-least = spaced.least (d .capacity) B few x held
 
   -- for a stream of one piece it says just that,
-  pub report-one-piece : number (d .capacity) B x ≡ 1 → reportedSpacing d B x ≡ roundedUp (d .capacity) (weight (d .capacity) B x)
+  pub report-one-piece : pieceCount (d .capacity) B x ≡ 1 → reportedSpacing d B x ≡ roundedUp (d .capacity) (weight (d .capacity) B x)
   report-one-piece = spaced.one-piece (d .capacity) B few x held (report-good d B x clear)
 
   -- and for any stream no more than C over its largest piece, rounded up: 2 ^ l for the highest one of its weight, or any other one.

@@ -43,8 +43,7 @@ since-short x d (y ∷ N) = by-bool (eqb y x) (λ t. rw t (omega (arith, since-s
 longest-append : (x d m : ℕ) (M N : List ℕ) → longest x d M ≤ m → longest x (since x d M) N ≤ m → longest x d (M ++ N) ≤ m
 unfolding longest since
 longest-append x d m [] N p q = q
-longest-append x d m (y ∷ M) N p q =
-    by-bool (eqb y x)
+longest-append x d m (y ∷ M) N p q = by-bool (eqb y x)
     (λ t. let u = rw t at p in let v = rw t at q in let r = longest-append x 0 m M N (omega arith) v in rw t (omega arith))
     (λ f. rw f (longest-append x (suc d) m M N (rw f at p) (rw f at q)))
 
@@ -57,8 +56,7 @@ since-append x d (y ∷ M) N = by-bool (eqb y x) (λ t. rw t (since-append x 0 M
 distances-longest : (x s d : ℕ) (N : List ℕ) → largest (distancesFrom s (slotsOf x (s + suc d) N)) ≤ longest x d N
 unfolding longest slotsOf distancesFrom largest
 distances-longest x s d [] = omega arith
-distances-longest x s d (y ∷ N) =
-    by-bool (eqb y x)
+distances-longest x s d (y ∷ N) = by-bool (eqb y x)
     (λ t.
     let n : suc (s + suc d) ≡ s + suc d + 1 = omega arith in
     let ih = distances-longest x (s + suc d) 0 N in
@@ -68,8 +66,7 @@ distances-longest x s d (y ∷ N) =
 slots-longest : (x n d : ℕ) (N : List ℕ) → largest (distances (slotsOf x n N)) ≤ longest x d N
 unfolding longest slotsOf largest
 slots-longest x n d [] = omega arith
-slots-longest x n d (y ∷ N) =
-    by-bool (eqb y x)
+slots-longest x n d (y ∷ N) = by-bool (eqb y x)
     (λ t. let m : suc n ≡ n + 1 = omega arith in let ih = distances-longest x n 0 N in rw (t, m) (omega arith))
     (λ f. rw f (slots-longest x (suc n) (suc d) N))
 
@@ -92,8 +89,7 @@ record Even (C q l : ℕ) : Type 0 where
 stands : (q : ℕ) (L : List ℕ) → zero < countList (λ (y : ℕ). eqb y q) L → (P : List ℕ) × (Q : List ℕ) × (L ≡ P ++ (q ∷ Q))
 unfolding countList
 stands q [] h = absurd (omega arith)
-stands q (y ∷ L) h =
-    by-bool (eqb y q)
+stands q (y ∷ L) h = by-bool (eqb y q)
     (λ t. ([], L, ap (λ (z : ℕ). z ∷ L) (eqb-true y q t)))
     (λ f. let n = rw f at h in let w = stands q L (omega arith) in (y ∷ w .0, w .1, ap (λ (M : List ℕ). y ∷ M) (w .2)))
 

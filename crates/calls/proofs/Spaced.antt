@@ -1,5 +1,4 @@
--- The spacing of a stream on a board: two rounds of slots, the serves of one round, and how far the spacing is from C/w rounded up.
--- Assumes nothing.
+-- The spacing of a stream on a board: two rounds of slots, the serves of one round, and how far the spacing is from C/w rounded up. Assumes nothing.
 use mathlib.Core.Path.{_≡_, refl, sym, ap, _∙_}
 use mathlib.Core.Bool.{Bool, true}
 use mathlib.Core.List.{List, [], _∷_, _++_, map}
@@ -13,10 +12,10 @@ use lib.ListN.{length, getD}
 use lib.Pow.{pow-pos}
 use borrow.Author.Tests.{eq-eqb, ne-eqb}
 use Rattle.general.specs.Tests.{one}
-use Rattle.sequences.specs.Board.{leafAt, servedFrom}
+use Rattle.sequences.specs.SlotOrder.{leafAt, servedFrom}
 use Rattle.sequences.specs.Serving.{countIn, countList, leavesFrom, afterSlots}
 use Rattle.sequences.proofs.Laws.{count-more, count-map, round-counts, round-ends, leaves-append}
-use Rattle.pieces.specs.Board.{good, weight, number}
+use Rattle.pieces.specs.Board.{good, weight, pieceCount}
 use Rattle.pieces.specs.Literal.{RunOf}
 use Rattle.pieces.proofs.Laws.{pieces-ones, digit-piece}
 use Rattle.calls.specs.Spacing.{slotsOf, spacingIn, roundedUp}
@@ -130,5 +129,5 @@ module _ (C : ℕ) (B : List ℕ) (few : C < 4096) where
           let u : spacingIn x (roundNames C B) ≤ roundedUp C (weight C B x) = rw e (piece-wait sound l (rw (e, div-self (pow-pos l)))) in
           omega (arith, least held)
 
-      pub one-piece : number C B x ≡ 1 → spacingIn x (roundNames C B) ≡ roundedUp C (weight C B x)
+      pub one-piece : pieceCount C B x ≡ 1 → spacingIn x (roundNames C B) ≡ roundedUp C (weight C B x)
       one-piece single = let w = ones-one (weight C B x) (sym (pieces-ones C B x (omega arith) sound) ∙ single) in power (w .0) (w .1)

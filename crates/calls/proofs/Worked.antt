@@ -1,11 +1,10 @@
 -- Boards worked by hand (document 01, P1 to P10; document 02, No. 1): one statement over one table, computed. Each case is a run of acts, each given the
--- record and the board as the last one left them, with what the documents say of each.
--- Assumes nothing.
+-- record and the board as the last one left them, with what the documents say of each. Assumes nothing.
 use mathlib.Core.Path.{_≡_, refl}
 use mathlib.Core.List.{List, [], _∷_, map}
 use Prim.Native.Nat.{ℕ, zero, suc}
 use lib.ListN.{take, replicate}
-use Rattle.sequences.specs.Board.{digits, leafAt, nextFrom}
+use Rattle.sequences.specs.SlotOrder.{digits, leafAt, nextFrom}
 use Rattle.sequences.specs.Serving.{leavesFrom}
 use Rattle.pieces.specs.Board.{weight, sound, single, pieces, whole, uniform, nth, sum}
 use Rattle.pieces.specs.Placing.{place, put, fill, spot, fit, first}
@@ -15,25 +14,25 @@ use Rattle.calls.specs.declared.Serving.{Serving}
 use Rattle.calls.specs.declared.Serving.the-variants.{Slot, Refused}
 use Rattle.calls.specs.Records.{driveAt}
 use Rattle.calls.specs.Refusals.{numberOf, openCheck, addCheck, removeCheck, slotCheck, changeCheck, roundCheck, reportCheck}
-use Rattle.calls.specs.Answers.{Answer, answered, openingAnswer, changeAnswer, reportAnswer}
+use Rattle.calls.specs.Answers.{Answer, checkAnswer, changeAnswer, reportAnswer}
 use Rattle.calls.specs.Results.{idleBoard, slotNames, opened, openedBoard, added, addedBoard, removed, removedBoard, served, roundedOutput, reported}
 use Rattle.calls.specs.Spacing.{spacingIn}
 
-data Act : Type 0 where
+data WorkedCall : Type 0 where
   -- open a board of C leaves
-  opens : ℕ → Act
+  opens : ℕ → WorkedCall
   -- a board of C leaves as it is lent, with what the checks of a change find
-  lends : ℕ → List ℕ → Act
-  adds : ℕ → ℕ → Act
-  removes : ℕ → Act
+  lends : ℕ → List ℕ → WorkedCall
+  adds : ℕ → ℕ → WorkedCall
+  removes : ℕ → WorkedCall
   -- what is reported of a name
-  reports : ℕ → Act
+  reports : ℕ → WorkedCall
   -- the leaves that n slots serve
-  serves : ℕ → Act
+  serves : ℕ → WorkedCall
   -- the names of a round
-  rounds : Act
+  rounds : WorkedCall
   -- the leaves of the board
-  looks : Act
+  looks : WorkedCall
 
 leafOf : Serving → ℕ
 leafOf (Slot name leaf passed round) = leaf
@@ -52,10 +51,10 @@ told : Answer → List ℕ
 told a = a .number ∷ a .values
 
 -- the record and the board after an act, and what it says: an answer's number and values, or what was asked for
-act : Act → Drive → List ℕ → Drive × List ℕ × List ℕ
+act : WorkedCall → Drive → List ℕ → Drive × List ℕ × List ℕ
 unfolding slots told
-act (opens C) d B = let lent : List ℕ = replicate C 9 in (opened C lent .drive, openedBoard C lent, told (openingAnswer (opened C lent .answer)))
-act (lends C L) d B = (driveAt C 1, L, told (answered (changeCheck (driveAt C 1) L) []))
+act (opens C) d B = let lent : List ℕ = replicate C 9 in (opened C lent .drive, openedBoard C lent, told (checkAnswer (opened C lent .answer)))
+act (lends C L) d B = (driveAt C 1, L, told (checkAnswer (changeCheck (driveAt C 1) L)))
 act (adds x w) d B = (d, addedBoard d B x w, told (changeAnswer (added d B x w .answer)))
 act (removes x) d B = (d, removedBoard d B x, told (changeAnswer (removed d B x .answer)))
 act (reports x) d B = (d, B, told (reportAnswer (reported d B x .answer)))
@@ -63,14 +62,14 @@ act (serves n) d B = let s = slots n d B in (s .0, B, s .1)
 act rounds d B = let lent : List ℕ = replicate (d .capacity) 9 in (d, B, roundedOutput d B lent)
 act looks d B = (d, B, take (d .capacity) B)
 
-run : List Act → Drive → List ℕ → List (List ℕ)
+run : List WorkedCall → Drive → List ℕ → List (List ℕ)
 unfolding act
 run [] d B = []
 run (a ∷ rest) d B = let s = act a d B in s .2 ∷ run rest (s .0) (s .1)
 
 -- acts, each with what the documents say of it
 abbrev Case : Type 0
-Case = List (Act × List ℕ)
+Case = List (WorkedCall × List ℕ)
 
 table : List Case
 table =
@@ -107,6 +106,6 @@ table =
     ∷ ((lends 1 (5 ∷ []), 0 ∷ []) ∷ (reports 5, 0 ∷ 1 ∷ 1 ∷ 1 ∷ []) ∷ (lends 3 (4 ∷ 4 ∷ 4 ∷ []), 0 ∷ []) ∷ (reports 4, 0 ∷ 3 ∷ 2 ∷ 1 ∷ []) ∷ [])
     ∷ []
 
-worked : map (λ (c : Case). run (map (λ (s : Act × List ℕ). s .0) c) (driveAt 0 0) []) table ≡ map (λ (c : Case). map (λ (s : Act × List ℕ). s .1) c) table
+worked : map (λ (c : Case). run (map (λ (s : WorkedCall × List ℕ). s .0) c) (driveAt 0 0) []) table ≡ map (λ (c : Case). map (λ (s : WorkedCall × List ℕ). s .1) c) table
 unfolding table run openCheck addCheck removeCheck slotCheck roundCheck changeCheck reportCheck spacingIn idleBoard slotNames digits leafAt nextFrom leavesFrom weight sound single pieces whole uniform sum place put fill spot nth fit first clear tidy step pair join twin move copy
 worked = refl

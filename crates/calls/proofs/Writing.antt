@@ -1,13 +1,13 @@
--- A slice written from its start on, one entry at a time: the idle leaves of open, the names of round.
--- Assumes nothing.
+-- A slice written from its start on, one entry at a time: the idle leaves of open, the names of round. Assumes nothing.
 use mathlib.Core.Path.{_≡_, refl, sym, ap, _∙_}
 use mathlib.Core.List.{List, [], _∷_, _++_, map, append-assoc}
 use Prim.Native.Nat.{ℕ, zero, suc, _+_, _-_, _≤_, _<_}
-use native.Mathlib.Nat.{add-zero}
+use native.Mathlib.Nat.{add-zero, zero-add}
 use native.Mathlib.Omega.{arith}
 use lib.ListN.{length, getD, set, drop, replicate, length-replicate, List·getD-append}
 use lib.Seq.{drop-cons, set-at, drop-append-add, drop-drop, getD-drop}
-use Rattle.sequences.specs.Board.{leafAt, servedFrom}
+use Rattle.pieces.specs.Placing.{fill}
+use Rattle.sequences.specs.SlotOrder.{leafAt, servedFrom}
 use Rattle.sequences.specs.Serving.{leavesFrom, afterSlots}
 use Rattle.sequences.proofs.Laws.{leaves-length, leaves-more, leaves-at}
 use Rattle.calls.specs.Results.{idleBoard, slotNames}
@@ -22,14 +22,16 @@ replicate-more : (n x : ℕ) → replicate (suc n) x ≡ replicate n x ++ (x ∷
 replicate-more zero x = refl
 replicate-more (suc n) x = ap (λ (l : List ℕ). x ∷ l) (replicate-more n x)
 
-pub idle-none : (B : List ℕ) → B ≡ idleBoard zero B
-unfolding idleBoard
-idle-none B = refl
-
-pub idle-next : (B : List ℕ) (i : ℕ) → i < length B → set (idleBoard i B) i 0 ≡ idleBoard (suc i) B
+idle-next : (B : List ℕ) (i : ℕ) → i < length B → set (idleBoard i B) i 0 ≡ idleBoard (suc i) B
 unfolding idleBoard
 idle-next B i h =
     write-next B (replicate i 0) i (length-replicate i 0) h 0 ∙ ap (λ (l : List ℕ). l ++ drop (suc i) B) (sym (replicate-more i 0))
+
+-- An opened board is one with its leaves idle.
+pub idle-opened : (n : ℕ) (B : List ℕ) → n ≤ length B → fill B 0 n 0 ≡ idleBoard n B
+unfolding fill idleBoard
+idle-opened zero B h = refl
+idle-opened (suc n) B h = rw (zero-add n, idle-opened n B (omega arith)) (idle-next B n h)
 
 -- ---- the leaves of the first n slots of a round at the start of the output
 
@@ -38,14 +40,12 @@ module _ (C : ℕ) where
   leavesOver n O = leavesFrom C 1 n ++ drop n O
 
   pub leaves-next : (n v : ℕ) (O L : List ℕ) → L ≡ leavesOver n O → v ≡ slotLeaf C n → n < length O → set L n v ≡ leavesOver (suc n) O
-  leaves-next n v O L e f h =
-      rw (e, f)
+  leaves-next n v O L e f h = rw (e, f)
       (write-next O (leavesFrom C 1 n) n (leaves-length C 1 n) h (slotLeaf C n)
       ∙ ap (λ (l : List ℕ). l ++ drop (suc n) O) (sym (leaves-more C 1 n)))
 
   pub leaves-read : (n i : ℕ) (O L : List ℕ) → L ≡ leavesOver n O → i < n → getD L i 0 ≡ slotLeaf C i
-  leaves-read n i O L e h =
-      rw e (List·getD-append (leavesFrom C 1 n) (drop n O) 0 i (rw (leaves-length C 1 n) h) ∙ leaves-at C 1 n i h)
+  leaves-read n i O L e h = rw e (List·getD-append (leavesFrom C 1 n) (drop n O) 0 i (rw (leaves-length C 1 n) h) ∙ leaves-at C 1 n i h)
 
   -- with no fewer slots nothing is left of the first leaves
   pub leaves-past : (n m : ℕ) (O L : List ℕ) → L ≡ leavesOver n O → n ≤ m → drop m L ≡ drop m O
@@ -88,8 +88,7 @@ module _ (C : ℕ) (B : List ℕ) where
 
   pub slot-names-more : (n : ℕ) → slotNames C B (suc n) ≡ slotNames C B n ++ (slot-name n ∷ [])
   unfolding slotNames
-  slot-names-more n =
-      ap (λ (l : List ℕ). map (λ leaf. getD B leaf 0) l) (leaves-more C 1 n)
+  slot-names-more n = ap (λ (l : List ℕ). map (λ leaf. getD B leaf 0) l) (leaves-more C 1 n)
       ∙ map-append (λ leaf. getD B leaf 0) (leavesFrom C 1 n) (leafAt C (servedFrom C (afterSlots C 1 n)) ∷ [])
 
   -- the output with the names of the first n slots of a round at its start
@@ -108,8 +107,7 @@ module _ (C : ℕ) (B : List ℕ) where
   -- what stands where the next name goes
   pub names-rest : (n : ℕ) (O : List ℕ) → getD (namesOver n O) n 0 ≡ getD O n 0
   unfolding namesOver
-  names-rest n O =
-      ap (λ (x : ℕ). getD (slotNames C B n ++ drop n O) x 0) (sym (add-zero n))
+  names-rest n O = ap (λ (x : ℕ). getD (slotNames C B n ++ drop n O) x 0) (sym (add-zero n))
       ∙ past (slotNames C B n) (drop n O) n 0 (slot-names-length n)
       ∙ getD-drop n O 0 0
       ∙ ap (λ (x : ℕ). getD O x 0) (add-zero n)

@@ -10,16 +10,10 @@ use Rattle.calls.specs.declared.Refusal.{Refusal}
 use Rattle.calls.specs.declared.Refusal.the-variants.{Room}
 use Rattle.calls.specs.declared.Check.{Check}
 use Rattle.calls.specs.declared.Check.the-variants.{Clear, Refused}
-use Rattle.calls.specs.declared.Opening.{Opening}
-use Rattle.calls.specs.declared.Opening.the-variants as opening
 use Rattle.calls.specs.declared.Change.{Change}
 use Rattle.calls.specs.declared.Change.the-variants as change
 use Rattle.calls.specs.declared.Serving.{Serving}
 use Rattle.calls.specs.declared.Serving.the-variants as serving
-use Rattle.calls.specs.declared.Rounding.{Rounding}
-use Rattle.calls.specs.declared.Rounding.the-variants as rounding
-use Rattle.calls.specs.declared.Refreshing.{Refreshing}
-use Rattle.calls.specs.declared.Refreshing.the-variants as refreshing
 use Rattle.calls.specs.declared.Report.{Report}
 use Rattle.calls.specs.declared.Report.the-variants as report
 
@@ -49,18 +43,9 @@ answered k vs = answeredWith k vs (λ r. map (λ v. 0) vs)
 abbrev pub beside : ℕ → ℕ → ℕ
 beside n idle = cond (eqb n 10) idle 0
 
--- Open, round and the fresh layout have no values.
-abbrev pub openingAnswer : Opening → Answer
-openingAnswer opening.Done = record { number = 0; values = [] }
-openingAnswer (opening.Refused r) = record { number = numberOf r; values = [] }
-
-abbrev pub roundingAnswer : Rounding → Answer
-roundingAnswer rounding.Done = record { number = 0; values = [] }
-roundingAnswer (rounding.Refused r) = record { number = numberOf r; values = [] }
-
-abbrev pub refreshingAnswer : Refreshing → Answer
-refreshingAnswer refreshing.Done = record { number = 0; values = [] }
-refreshingAnswer (refreshing.Refused r) = record { number = numberOf r; values = [] }
+-- Open, round, the fresh layout and read have no values.
+abbrev pub checkAnswer : Check → Answer
+checkAnswer k = answered k []
 
 -- Add and remove: the idle leaves left; ROOM, the idle leaves there are.
 abbrev pub changeAnswer : Change → Answer

@@ -5,7 +5,7 @@ use mathlib.Core.List.{List, [], _∷_, map}
 use Prim.Native.Nat.{ℕ, _-_, _^_}
 use lib.Dec.{eqb, ltb}
 use lib.ListN.{length}
-use Rattle.sequences.specs.Board.{digits}
+use Rattle.sequences.specs.SlotOrder.{digits}
 use Rattle.pieces.specs.Board as pieces
 use Rattle.calls.specs.declared.Drive.{Drive}
 use Rattle.calls.specs.declared.Refusal.{Refusal}
@@ -71,6 +71,11 @@ firstOf (r ∷ rs) a = let others = firstOf rs a in refuseIf (applies r a) r oth
 abbrev pub andThen : Check → Check → Check
 andThen Clear later = later
 andThen (Refused r) later = Refused r
+
+-- Checks that find nothing.
+abbrev pub isClear : Check → Bool
+isClear Clear = true
+isClear (Refused r) = false
 
 -- n is 0, or a number of the list.
 unfoldable pub zeroOr : ℕ → List ℕ → Bool

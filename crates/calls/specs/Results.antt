@@ -6,35 +6,27 @@ use mathlib.Core.List.{List, [], _∷_, _++_, map}
 use Prim.Native.Nat.{ℕ}
 use lib.Dec.{eqb}
 use lib.ListN.{length, getD, drop, replicate}
-use Rattle.sequences.specs.Board.{leafAt, passedFrom, servedFrom, nextFrom}
+use Rattle.sequences.specs.SlotOrder.{leafAt, passedFrom, servedFrom, nextFrom}
 use Rattle.sequences.specs.Serving.{leavesFrom}
-use Rattle.pieces.specs.Board.{weight, number}
+use Rattle.pieces.specs.Board.{weight, pieceCount}
 use Rattle.pieces.specs.Placing as placing
 use Rattle.pieces.specs.Tidying as tidying
 use Rattle.pieces.specs.Fresh as layout
 use Rattle.calls.specs.Records.{driveAt, movedTo}
-use Rattle.calls.specs.Answers.{Answer, answered, answeredWith, beside}
+use Rattle.calls.specs.Answers.{Answer, answered, answeredWith, checkAnswer, beside}
 use Rattle.calls.specs.Spacing.{spacingIn}
 use Rattle.calls.specs.Refusals.{numberOf, openCheck, addCheck, removeCheck, slotCheck, roundCheck, reportCheck, changeCheck}
 use Rattle.calls.specs.declared.Drive.{Drive}
 use Rattle.calls.specs.declared.Refusal.{Refusal}
 use Rattle.calls.specs.declared.Check.{Check}
 use Rattle.calls.specs.declared.Check.the-variants.{Clear, Refused}
-use Rattle.calls.specs.declared.Opened.{Opened}
-use Rattle.calls.specs.declared.Opening.{Opening}
-use Rattle.calls.specs.declared.Opening.the-variants as opening
+use Rattle.calls.specs.declared.Checked.{Checked}
 use Rattle.calls.specs.declared.Changed.{Changed}
 use Rattle.calls.specs.declared.Change.{Change}
 use Rattle.calls.specs.declared.Change.the-variants as change
 use Rattle.calls.specs.declared.Served.{Served}
 use Rattle.calls.specs.declared.Serving.{Serving}
 use Rattle.calls.specs.declared.Serving.the-variants as serving
-use Rattle.calls.specs.declared.Rounded.{Rounded}
-use Rattle.calls.specs.declared.Rounding.{Rounding}
-use Rattle.calls.specs.declared.Rounding.the-variants as rounding
-use Rattle.calls.specs.declared.Refreshed.{Refreshed}
-use Rattle.calls.specs.declared.Refreshing.{Refreshing}
-use Rattle.calls.specs.declared.Refreshing.the-variants as refreshing
 use Rattle.calls.specs.declared.Reported.{Reported}
 use Rattle.calls.specs.declared.Report.{Report}
 use Rattle.calls.specs.declared.Report.the-variants as report
@@ -44,11 +36,11 @@ abbrev pub ifClear {ℓ} : {A : Type ℓ} → Check → A → A → A
 ifClear Clear done was = done
 ifClear (Refused r) done was = was
 
--- The answers, by what the checks find.
-abbrev pub openingBy : Check → Opening
-openingBy Clear = opening.Done
-openingBy (Refused r) = opening.Refused r
+-- What open and read give back, by what their checks find: the record that they set, with C and p; refused, one with both zero.
+abbrev pub setBy : Check → ℕ → ℕ → Checked
+setBy k C p = record { drive = ifClear k (driveAt C p) (driveAt 0 0); answer = k }
 
+-- The answers that have values, by what the checks find.
 abbrev pub changeBy : Check → ℕ → Change
 changeBy Clear idle = change.Done idle
 changeBy (Refused r) idle = change.Refused r
@@ -65,24 +57,16 @@ abbrev pub servingBy : Check → ℕ → ℕ → ℕ → ℕ → Serving
 servingBy Clear name leaf passed round = serving.Slot name leaf passed round
 servingBy (Refused r) name leaf passed round = serving.Refused r
 
-abbrev pub roundingBy : Check → Rounding
-roundingBy Clear = rounding.Done
-roundingBy (Refused r) = rounding.Refused r
-
-abbrev pub refreshingBy : Check → Refreshing
-refreshingBy Clear = refreshing.Done
-refreshingBy (Refused r) = refreshing.Refused r
-
 abbrev pub reportBy : Check → ℕ → ℕ → ℕ → Report
 reportBy Clear weight pieces spacing = report.Stream weight pieces spacing
 reportBy (Refused r) weight pieces spacing = report.Refused r
 
 -- open: C leaves become idle, p = 1, and the round number is 0.
-abbrev pub opened : ℕ → List ℕ → Opened
-opened C B = record { drive = ifClear (openCheck C B) (driveAt C 1) (driveAt 0 0); answer = openingBy (openCheck C B) }
+abbrev pub opened : ℕ → List ℕ → Checked
+opened C B = setBy (openCheck C B) C 1
 
 abbrev pub openedAnswer : ℕ → List ℕ → Answer
-openedAnswer C B = answered (openCheck C B) []
+openedAnswer C B = checkAnswer (openCheck C B)
 
 -- C idle leaves; the entries beyond are as they were.
 unfoldable pub idleBoard : ℕ → List ℕ → List ℕ
@@ -131,11 +115,11 @@ removedAnswer d B x = let idle = removedIdle d B x in answered (removeCheck d B 
 abbrev pub refreshedBoard : Drive → List ℕ → List ℕ
 refreshedBoard d B = let done = layout.fresh (d .capacity) B in ifClear (changeCheck d B) done B
 
-abbrev pub refreshed : Drive → List ℕ → Refreshed
-refreshed d B = record { drive = d; answer = refreshingBy (changeCheck d B) }
+abbrev pub refreshed : Drive → List ℕ → Checked
+refreshed d B = record { drive = d; answer = changeCheck d B }
 
 abbrev pub refreshedAnswer : Drive → List ℕ → Answer
-refreshedAnswer d B = answered (changeCheck d B) []
+refreshedAnswer d B = checkAnswer (changeCheck d B)
 
 -- slot: the name, the leaf, the terms passed over, and the number of the round that the slot belongs to, which is the record's before p moves on.
 abbrev pub servedLeaf : Drive → ℕ
@@ -176,11 +160,11 @@ roundNames C B = slotNames C B C
 abbrev pub roundedOutput : Drive → List ℕ → List ℕ → List ℕ
 roundedOutput d B O = let done = roundNames (d .capacity) B ++ drop (d .capacity) O in ifClear (roundCheck d B (length O)) done O
 
-abbrev pub rounded : Drive → List ℕ → List ℕ → Rounded
-rounded d B O = record { drive = d; answer = roundingBy (roundCheck d B (length O)) }
+abbrev pub rounded : Drive → List ℕ → List ℕ → Checked
+rounded d B O = record { drive = d; answer = roundCheck d B (length O) }
 
 abbrev pub roundedAnswer : Drive → List ℕ → List ℕ → Answer
-roundedAnswer d B O = answered (roundCheck d B (length O)) []
+roundedAnswer d B O = checkAnswer (roundCheck d B (length O))
 
 -- report: weight, number of pieces, and spacing, read off the names of a round.
 abbrev pub reportedSpacing : Drive → List ℕ → ℕ → ℕ
@@ -189,9 +173,9 @@ reportedSpacing d B x = spacingIn x (roundNames (d .capacity) B)
 abbrev pub reported : Drive → List ℕ → ℕ → Reported
 reported d B x =
     let w = weight (d .capacity) B x in
-    let n = number (d .capacity) B x in
+    let n = pieceCount (d .capacity) B x in
     let s = reportedSpacing d B x in
     record { drive = d; answer = reportBy (reportCheck d B x) w n s }
 
 abbrev pub reportedAnswer : Drive → List ℕ → ℕ → Answer
-reportedAnswer d B x = answered (reportCheck d B x) (weight (d .capacity) B x ∷ number (d .capacity) B x ∷ reportedSpacing d B x ∷ [])
+reportedAnswer d B x = answered (reportCheck d B x) (weight (d .capacity) B x ∷ pieceCount (d .capacity) B x ∷ reportedSpacing d B x ∷ [])

@@ -59,21 +59,15 @@ impl Refusal {
     }
 }
 
-// What the checks before a call find.
+// What the checks before a call find, and the answer of a call that returns no value: open, round, the fresh layout, read.
 pub enum Check {
     Clear,
     Refused(Refusal),
 }
 
-// The answer of open.
-pub enum Opening {
-    Done,
-    Refused(Refusal),
-}
-
-pub struct Opened {
+pub struct Checked {
     pub drive: Drive,
-    pub answer: Opening,
+    pub answer: Check,
 }
 
 // The answer of add and of remove: the idle leaves left. ROOM has its own case, which says the idle leaves there are, and is never Refused(Room).
@@ -104,17 +98,6 @@ pub struct Served {
     pub answer: Serving,
 }
 
-// The answer of round.
-pub enum Rounding {
-    Done,
-    Refused(Refusal),
-}
-
-pub struct Rounded {
-    pub drive: Drive,
-    pub answer: Rounding,
-}
-
 // The answer of report.
 pub enum Report {
     Stream {
@@ -128,17 +111,6 @@ pub enum Report {
 pub struct Reported {
     pub drive: Drive,
     pub answer: Report,
-}
-
-// The answer of the fresh layout.
-pub enum Refreshing {
-    Done,
-    Refused(Refusal),
-}
-
-pub struct Refreshed {
-    pub drive: Drive,
-    pub answer: Refreshing,
 }
 
 impl Drive {
@@ -186,20 +158,20 @@ impl Drive {
     }
 
     // Opens a board: its leaves become idle, and the record stands at the start of a round.
-    pub fn open(capacity: u16, board: &mut [u16]) -> Opened
+    pub fn open(capacity: u16, board: &mut [u16]) -> Checked
         ensures { λ r. ⌜ promises.Opens capacity (now (board .entry)) r (now (board .exit)) ⌝ }
     {
         let c = capacity as usize;
         match checks::check_open(c, board) {
-            Check::Refused(r) => Opened {
+            Check::Refused(r) => Checked {
                 drive: Drive::new(0, 0),
-                answer: Opening::Refused(r),
+                answer: Check::Refused(r),
             },
             Check::Clear => {
-                make_idle(board, c);
-                Opened {
+                pieces::fill(board, 0, c, 0);
+                Checked {
                     drive: Drive::new(capacity, 1),
-                    answer: Opening::Done,
+                    answer: Check::Clear,
                 }
             }
         }
@@ -265,19 +237,19 @@ impl Drive {
     }
 
     // Lays the board out afresh: as if every stream had been added to an opened board by falling weight, then rising name.
-    pub fn fresh(self, board: &mut [u16]) -> Refreshed
+    pub fn fresh(self, board: &mut [u16]) -> Checked
         ensures { λ r. ⌜ promises.Refreshes self (now (board .entry)) r (now (board .exit)) ⌝ }
     {
         match self.check_change(board) {
-            Check::Refused(r) => Refreshed {
+            Check::Refused(r) => Checked {
                 drive: self,
-                answer: Refreshing::Refused(r),
+                answer: Check::Refused(r),
             },
             Check::Clear => {
                 pieces::lay_out(board, self.capacity as usize);
-                Refreshed {
+                Checked {
                     drive: self,
-                    answer: Refreshing::Done,
+                    answer: Check::Clear,
                 }
             }
         }
@@ -310,19 +282,19 @@ impl Drive {
     }
 
     // Writes the names of a full round.
-    pub fn round(self, board: &[u16], output: &mut [u16]) -> Rounded
+    pub fn round(self, board: &[u16], output: &mut [u16]) -> Checked
         ensures { λ r. ⌜ promises.Rounds self (now (board .entry)) (now (output .entry)) r (now (output .exit)) ⌝ }
     {
         match self.check_round(board, output.len()) {
-            Check::Refused(r) => Rounded {
+            Check::Refused(r) => Checked {
                 drive: self,
-                answer: Rounding::Refused(r),
+                answer: Check::Refused(r),
             },
             Check::Clear => {
                 rounds::write_round(board, self.capacity as usize, output);
-                Rounded {
+                Checked {
                     drive: self,
-                    answer: Rounding::Done,
+                    answer: Check::Clear,
                 }
             }
         }
@@ -362,16 +334,4 @@ fn next_round(number: u64) -> u64
         return 0;
     }
     number + 1
-}
-
-// Makes the first c entries idle.
-fn make_idle(board: &mut [u16], c: usize)
-    requires { ⌜ c ≤ length (now board) ⌝ }
-    ensures { λ _. ⌜ now (board .exit) ≡ results.idleBoard c (now (board .entry)) ⌝ }
-{
-    let mut i: usize = 0;
-    while i < c {
-        board[i] = 0;
-        i += 1;
-    }
 }

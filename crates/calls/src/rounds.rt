@@ -4,7 +4,7 @@ ghost use mathlib.Core.Path.{_≡_};
 ghost use mathlib.Core.List.{_++_};
 ghost use Prim.Native.Nat.{suc, _/_, _^_, _≤_, _<_};
 ghost use lib.ListN.{length, drop};
-ghost use Rattle.sequences.specs.Board.{Position};
+ghost use Rattle.sequences.specs.SlotOrder.{Position};
 ghost use Rattle.sequences.specs.Serving.{leavesFrom};
 ghost use Rattle.calls.specs.Results as results;
 

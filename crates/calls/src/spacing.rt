@@ -3,7 +3,7 @@ ghost use mathlib.Core.Path.{_≡_};
 ghost use mathlib.Core.List.{[]};
 ghost use Prim.Native.Nat.{_≤_, _<_, max};
 ghost use lib.ListN.{length};
-ghost use Rattle.sequences.specs.Board.{Position};
+ghost use Rattle.sequences.specs.SlotOrder.{Position};
 ghost use Rattle.pieces.specs.Board.{weight};
 ghost use Rattle.calls.specs.Spacing.{spacingIn};
 ghost use Rattle.calls.specs.Gaps as gaps;

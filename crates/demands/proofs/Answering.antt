@@ -1,5 +1,4 @@
--- What a call answers that goes by the first refusal of a list.
--- Assumes nothing.
+-- What a call answers that goes by the first refusal of a list. Assumes nothing.
 use mathlib.Core.Path.{_≡_, refl}
 use mathlib.Core.Bool.{Bool, true, false, cond}
 use mathlib.Core.List.{List, [], _∷_}

@@ -1,5 +1,4 @@
--- The checks before a call: what it means that none of a list of refusals applies, and that one is the first.
--- Assumes nothing.
+-- The checks before a call: what it means that none of a list of refusals applies, and that one is the first. Assumes nothing.
 use mathlib.Core.Path.{_≡_, refl, sym, ap, _∙_}
 use mathlib.Core.Bool.{Bool, true, false}
 use mathlib.Core.List.{List, [], _∷_, _++_}

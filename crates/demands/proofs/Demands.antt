@@ -1,6 +1,5 @@
 -- The demands, each by its name: demand 1, and the board and the slot order of demand 2, for every call and every input; demand 3 for every history from an
--- opened board. What they ask of save and read stands in `sheets`, proofs/Laws.
--- Assumes nothing.
+-- opened board. What they ask of save and read stands in `sheets`, proofs/Laws. Assumes nothing.
 use mathlib.Core.Path.{_≡_, refl, sym, ap, subst, _∙_}
 use mathlib.Core.Bool.{true, cond}
 use mathlib.Core.List.{List, [], _∷_, _++_}
@@ -10,31 +9,32 @@ use lib.Count.{ones}
 use lib.Dec.{eqb, ltb}
 use lib.ListN.{length, getD, replicate}
 use Rattle.general.proofs.Laws.{clash}
-use Rattle.sequences.specs.Scanning.{roundLeaves}
-use Rattle.sequences.specs.Board.{passedFrom, servedFrom, nextFrom}
+use Rattle.sequences.specs.Scanning.{roundLeaves, occurrences}
+use Rattle.sequences.specs.SlotOrder.{passedFrom, servedFrom, nextFrom}
 use Rattle.sequences.proofs.Laws.{passed-one, passed-clear, served-position, served-serves, leaf-literal, round-literal}
-use Rattle.pieces.specs.Board.{weight, number}
+use Rattle.pieces.specs.Board.{weight, pieceCount}
 use Rattle.pieces.specs.Placing.{placed}
 use Rattle.pieces.specs.Tidying.{removed}
 use Rattle.pieces.proofs.Laws.{pieces-ones}
 use Rattle.calls.specs.declared.Drive.{Drive}
 use Rattle.calls.specs.declared.Check.the-variants.{Clear}
 use Rattle.calls.specs.Records.{driveAt, roundAfter}
-use Rattle.calls.specs.Refusals.{numberOf, firstOf, among, askedAdd, openMay, removeMay, slotMay, roundMay, reportMay, changeMay, openCheck, addCheck, removeCheck, slotCheck, roundCheck, reportCheck, changeCheck}
+use Rattle.calls.specs.Refusals.{numberOf, firstOf, among, askedAdd, openMay, admitMay, removeMay, slotMay, roundMay, reportMay, changeMay, openCheck, addCheck, removeCheck, slotCheck, roundCheck, reportCheck, changeCheck}
 use Rattle.calls.specs.Answers.{beside}
 use Rattle.calls.specs.Results.{openedAnswer, slotNames, roundNames}
 use Rattle.calls.proofs.Laws.{clear-number, refusal, open-answers, add-answers, remove-answers, slot-answers, round-answers, report-answers, fresh-answers, open-clear, slot-sized, slot-position, change-slot, fresh-twice}
 use Rattle.demands.specs.Histories.{Act, Add, Remove, Slot, Round, Report, Fresh, State, Openable, does, says, opens, after, reach, log}
-use Rattle.demands.specs.Refusing.{mayAnswer, lent, writes, refusedValues, otherChecks}
-use Rattle.demands.specs.Holdings.{isChange, changesBoard, heldFrom, held, heldOf, total}
-use Rattle.demands.specs.Rounds.{names, namesFrom, FullRound, InTurn, inARow, times, namesOn, Near, bound, demanded}
+use Rattle.demands.specs.Refusing.{mayAnswer, lentOutput, writes, refusedValues}
+use Rattle.pieces.specs.Streams.{heldOf, total}
+use Rattle.demands.specs.Holdings.{isChange, changesBoard, heldFrom, held}
+use Rattle.demands.specs.Rounds.{names, namesFrom, FullRound, InTurn, inARow, namesOn, Near, bound, demanded}
 use Rattle.demands.specs.Stretches.{Still, PowerOfTwo, PowerFair, StillFair}
 use Rattle.demands.specs.Layouts.{streamAdds, AllDone}
 use Rattle.demands.specs.Certificates.{certificates, ofSlot, slotsIn, Every, ToldRound}
 use Rattle.demands.proofs.Answering.{beside-says, zeros-say, done-idle}
 use Rattle.demands.proofs.Valid.{Valid, slot-clear, clear-valid}
 use Rattle.demands.proofs.Reached.{Sound, after-one, held-append, same-either, opened-clear, always}
-use Rattle.demands.proofs.Rows.{full-names, slots-length, slots-full}
+use Rattle.demands.proofs.ServedNames.{full-names, slots-length, slots-full}
 use Rattle.demands.proofs.Numbering.{moves}
 use Rattle.demands.proofs.Told.{full-number, full-over, number-counted, certificate-at, one-slot, full-told, told-full}
 use Rattle.demands.proofs.Stretching.{slots-still, still-board, served-power, served-still}
@@ -47,7 +47,7 @@ use Rattle.demands.proofs.Standing.{never-damaged, midround, fresh-pass
 -- the idle leaves.
 pub demand-1 : (a : Act) (s : State)
     → (among (says a s .number) (mayAnswer a) ≡ true)
-    × ((says a s .number ≡ 0 → ⊥) → (does a s ≡ s) × (writes a s ≡ lent a) × (says a s .values ≡ refusedValues s (says a s)))
+    × ((says a s .number ≡ 0 → ⊥) → (does a s ≡ s) × (writes a s ≡ lentOutput a) × (says a s .values ≡ refusedValues s (says a s)))
 unfolding among
 demand-1 (Add x w) s =
     let d = s .drive in
@@ -189,7 +189,7 @@ module _ (C : ℕ) (B : List ℕ) (may : Openable C B) (acts : List Act) where
 
   -- and an add that passes the other checks is refused for ROOM exactly when its weight exceeds C less the sum of the weights held; else it is done.
   -- Refused so, it says that number,
-  pub demand-3-room : (x w : ℕ) → firstOf otherChecks (askedAdd (reach C B acts .drive) (reach C B acts .board) x w) ≡ Clear
+  pub demand-3-room : (x w : ℕ) → firstOf admitMay (askedAdd (reach C B acts .drive) (reach C B acts .board) x w) ≡ Clear
       → (says (Add x w) (reach C B acts) .number ≡ cond (ltb (C - total (held C B acts)) w) 10 0)
       × (says (Add x w) (reach C B acts) .number ≡ 10 → says (Add x w) (reach C B acts) .values ≡ (C - total (held C B acts)) ∷ [])
   demand-3-room x w e = (
@@ -206,7 +206,7 @@ module _ (C : ℕ) (B : List ℕ) (may : Openable C B) (acts : List Act) where
 
   -- At the start of a round an add passes the other checks if it has a name and a weight, and nothing is held of the name.
   pub demand-3-others : (x w : ℕ) → reach C B acts .drive .position ≡ 1 → (x ≡ 0 → ⊥) → (w ≡ 0 → ⊥) → heldOf x (held C B acts) ≡ 0
-      → firstOf otherChecks (askedAdd (reach C B acts .drive) (reach C B acts .board) x w) ≡ Clear
+      → firstOf admitMay (askedAdd (reach C B acts .drive) (reach C B acts .board) x w) ≡ Clear
   demand-3-others = others-pass (reach C B acts) (held C B acts) r
 
   -- What is held of a name is the number of its leaves,
@@ -214,7 +214,7 @@ module _ (C : ℕ) (B : List ℕ) (may : Openable C B) (acts : List Act) where
   demand-3-held x named = rw (capacity acts) at (sym (r .names x named))
 
   -- in as many pieces as the weight has ones,
-  pub demand-3-pieces : (x : ℕ) → (x ≡ 0 → ⊥) → number C (reach C B acts .board) x ≡ ones (heldOf x (held C B acts))
+  pub demand-3-pieces : (x : ℕ) → (x ≡ 0 → ⊥) → pieceCount C (reach C B acts .board) x ≡ ones (heldOf x (held C B acts))
   demand-3-pieces x named = pieces-ones C (reach C B acts .board) x (may .few) (rw (capacity acts) at (r .fine)) ∙ ap ones (sym (demand-3-held x named))
 
   -- and the idle number that an add or a remove returns is C less the sum held after it.
@@ -240,19 +240,19 @@ module _ (C : ℕ) (B : List ℕ) (may : Openable C B) (acts : List Act) where
   demand-3-full first = subst (λ (n : ℕ). FullRound (reach C B acts) (replicate (n - 1) Slot)) (capacity acts) (slots-full (reach C B acts) (r .valid) first)
 
   -- In each full round a name is served as often as the weight that it holds at the round's first slot.
-  pub demand-3-round : (rest : List Act) → FullRound (reach C B acts) rest → (x : ℕ) → (x ≡ 0 → ⊥) → times x (namesFrom (reach C B acts) rest) ≡ heldOf x (held C B acts)
+  pub demand-3-round : (rest : List Act) → FullRound (reach C B acts) rest → (x : ℕ) → (x ≡ 0 → ⊥) → occurrences x (namesFrom (reach C B acts) rest) ≡ heldOf x (held C B acts)
   demand-3-round = served-round (reach C B acts) (held C B acts) r
 
   -- In any t successive slots of that round a stream of weight w is served s times, and C s and w t differ by less than m C + w h,
   pub demand-3-fair : (rest : List Act) → FullRound (reach C B acts) rest → (x w i t : ℕ) → heldOf x (held C B acts) ≡ w → zero < w → i + t ≤ C
-      → Near (C * times x (inARow i t (namesFrom (reach C B acts) rest))) (w * t) (bound C w)
+      → Near (C * occurrences x (inARow i t (namesFrom (reach C B acts) rest))) (w * t) (bound C w)
   demand-3-fair rest full x w i t holds some =
-      subst (λ (n : ℕ). i + t ≤ n → Near (n * times x (inARow i t (namesFrom (reach C B acts) rest))) (w * t) (bound n w)) (capacity acts)
+      subst (λ (n : ℕ). i + t ≤ n → Near (n * occurrences x (inARow i t (namesFrom (reach C B acts) rest))) (w * t) (bound n w)) (capacity acts)
       (served-fair (reach C B acts) (held C B acts) r rest full x w i t holds some)
 
   -- so by less than the demand's own 2 m C + w h.
   pub demand-3-demanded : (rest : List Act) → FullRound (reach C B acts) rest → (x w i t : ℕ) → heldOf x (held C B acts) ≡ w → zero < w → i + t ≤ C
-      → Near (C * times x (inARow i t (namesFrom (reach C B acts) rest))) (w * t) (demanded C w)
+      → Near (C * occurrences x (inARow i t (namesFrom (reach C B acts) rest))) (w * t) (demanded C w)
   demand-3-demanded rest full x w i t holds some within = let f = demand-3-fair rest full x w i t holds some within in omega arith
 
   -- ---- Request No. 6, for the same histories

@@ -1,6 +1,5 @@
 -- Histories, computed: what demand 3 speaks of happens, with these numbers. C = 11, on a longer slice; two records given by hand, whose number is the largest;
--- and C = 16 over several rounds.
--- Assumes nothing.
+-- and C = 16 over several rounds. Assumes nothing.
 use mathlib.Core.Path.{_≡_, refl}
 use mathlib.Core.Bool.{Bool, true, false, _&&_}
 use mathlib.Core.List.{List, [], _∷_, _++_, map}
@@ -9,16 +8,17 @@ use native.Mathlib.Omega.{arith}
 use lib.Count.{ones, onesIn}
 use lib.Dec.{ltb}
 use lib.ListN.{take, replicate}
-use Rattle.sequences.specs.Board.{leafAt, nextFrom}
+use Rattle.sequences.specs.SlotOrder.{leafAt, nextFrom}
 use Rattle.sequences.specs.Serving.{countList}
-use Rattle.pieces.specs.Board.{uniform, whole, pieces, number, weight, nth, single, sound, sum}
+use Rattle.sequences.specs.Scanning.{occurrences}
+use Rattle.pieces.specs.Board.{uniform, whole, pieces, pieceCount, weight, nth, single, sound, sum}
 use Rattle.pieces.specs.Placing.{fill, first, fit, spot, put, place}
 use Rattle.pieces.specs.Tidying.{copy, move, twin, join, pair, step, tidy, clear}
 use Rattle.calls.specs.Refusals.{openCheck, addCheck, removeCheck, slotCheck, reportCheck}
 use Rattle.calls.specs.Results.{idleBoard}
 use Rattle.demands.specs.Histories.{Act, Add, Remove, Slot, Report, State, Openable, opens, after, reach, log}
 use Rattle.demands.specs.Holdings.{without, heldFrom, held}
-use Rattle.demands.specs.Rounds.{names, namesFrom, FullRound, inARow, times, bound, powerBound}
+use Rattle.demands.specs.Rounds.{names, namesFrom, FullRound, inARow, bound, powerBound}
 use Rattle.demands.specs.Certificates.{certificates}
 use Rattle.demands.specs.Stretches.{noneDone, Still}
 
@@ -56,8 +56,8 @@ history :
     × FullRound (reach 11 board early) rest
     × FullRound (reach 11 board later) rest
     × (namesFrom (reach 11 board early) rest ≡ 7 ∷ 7 ∷ 2 ∷ 7 ∷ 7 ∷ 0 ∷ 7 ∷ 7 ∷ 2 ∷ 7 ∷ 7 ∷ [])
-    × (times 7 (namesFrom (reach 11 board early) rest) ≡ 8)
-    × (times 7 (inARow 2 7 (namesFrom (reach 11 board early) rest)) ≡ 4)
+    × (occurrences 7 (namesFrom (reach 11 board early) rest) ≡ 8)
+    × (occurrences 7 (inARow 2 7 (namesFrom (reach 11 board early) rest)) ≡ 4)
     × (near (11 * 4) (8 * 7) (bound 11 8) ≡ true)
 unfolding log after names heldFrom without openCheck addCheck removeCheck slotCheck reportCheck idleBoard uniform whole pieces weight nth single sound sum fill first fit spot put place copy move twin join pair step tidy clear leafAt nextFrom countList ones onesIn
 history = (refl, refl, refl, refl, record { first = refl; slots = refl }, record { first = refl; slots = refl }, refl, refl, refl, refl)
@@ -107,11 +107,11 @@ rounds = round ++ round ++ round ++ take 8 round
 -- slot 1 on: 32 and 47 are 15 apart, and one more would be m C.
 pub stretch :
     Still loaded long
-    × (number 16 (loaded .board) 3 ≡ 2)
+    × (pieceCount 16 (loaded .board) 3 ≡ 2)
     × (names (log loaded long) ≡ rounds)
-    × (times 3 (inARow 8 34 rounds) ≡ 8)
-    × (times 3 (inARow 10 46 rounds) ≡ 7)
-    × (times 1 (inARow 1 47 rounds) ≡ 2)
+    × (occurrences 3 (inARow 8 34 rounds) ≡ 8)
+    × (occurrences 3 (inARow 10 46 rounds) ≡ 7)
+    × (occurrences 1 (inARow 1 47 rounds) ≡ 2)
     × (near (16 * 8) (3 * 34) (powerBound 16 2) ≡ true)
     × (near (16 * 7) (3 * 46) (powerBound 16 2) ≡ true)
     × (near (16 * 2) (1 * 47) (powerBound 16 1) ≡ true)

@@ -10,15 +10,14 @@
 --   `moves`, `drive-moves`, `slot-moves`, `after-one`, `after-append`, `held-append`, `names-append`: where acts lead, and acts after acts.
 -- Assumes nothing.
 pub use Rattle.demands.specs.Histories.{Act, Add, Remove, Slot, Round, Report, Fresh, State, does, says, opens, after, Openable, reach, Event, log}
-pub use Rattle.demands.specs.Refusing.{otherChecks}
-pub use Rattle.demands.specs.Holdings.{Stream, without, changed, isChange, changesBoard, heldFrom, held, heldOf, total}
-pub use Rattle.demands.specs.Rounds.{servedBy, names, namesFrom, FullRound, inARow, times, namesOn, Near, bound, demanded, powerBound}
+pub use Rattle.demands.specs.Holdings.{without, heldAfter, isChange, changesBoard, heldFrom, held}
+pub use Rattle.demands.specs.Rounds.{namesBy, names, namesFrom, FullRound, inARow, namesOn, Near, bound, demanded, powerBound}
 pub use Rattle.demands.specs.Layouts.{addsOf, streamAdds, AllDone}
 pub use Rattle.demands.specs.Certificates.{Certificate, certifiedBy, certificates, ofSlot, slotsIn, Every, ToldRound}
 pub use Rattle.demands.specs.Stretches.{isDone, noneDone, Still, PowerOfTwo, PowerFair, StillFair}
 pub use Rattle.demands.proofs.Valid.{stateAt, Valid, slot-clear, clear-valid, slot-moves, valid-next}
 pub use Rattle.demands.proofs.Reached.{Sound, opened, step, reached, always, same-either, after-one, after-append, held-append}
-pub use Rattle.demands.proofs.Rows.{names-append, full-names, slots-length, slots-full}
+pub use Rattle.demands.proofs.ServedNames.{names-append, full-names, slots-length, slots-full}
 pub use Rattle.demands.proofs.Numbering.{driveAfter, certificateOf, drive-moves, moves, slot-certifies, certificates-length}
 pub use Rattle.demands.proofs.Told.{full-number, full-over, number-counted, certificate-at, one-slot, full-told, told-full}
 pub use Rattle.demands.proofs.Standing.{never-damaged, midround, fresh-passes, others-pass, room, room-told, room-asked, held-weight, served-round, served-fair}

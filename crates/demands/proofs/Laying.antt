@@ -6,8 +6,7 @@ use Prim.Native.Nat.{ℕ, _<_}
 use lib.ListN.{getD}
 use Rattle.pieces.specs.Board.{weight}
 use Rattle.pieces.specs.Placing.{placed}
-use Rattle.pieces.specs.Fresh.{laid, Placeables, idle, streams, fresh}
-use Rattle.pieces.specs.Fresh as pieces
+use Rattle.pieces.specs.Fresh.{allPlaced, Placeables, idle, streams, fresh}
 use Rattle.pieces.proofs.Laws.{fresh-placeable}
 use Rattle.calls.specs.declared.Drive.{Drive}
 use Rattle.calls.specs.declared.Check.the-variants.{Clear}
@@ -17,7 +16,7 @@ use Rattle.calls.specs.Results.{idleBoard, roundNames}
 use Rattle.calls.proofs.Laws.{add-passes, add-keeps, idle-opened}
 use Rattle.calls.proofs.Laws as calls
 use Rattle.demands.specs.Histories.{Add, Fresh, State, Openable, does, opens, after, reach, log}
-use Rattle.demands.specs.Holdings.{Stream, heldOf}
+use Rattle.pieces.specs.Streams.{Stream, heldOf}
 use Rattle.demands.specs.Layouts.{addsOf, streamAdds, AllDone}
 use Rattle.demands.proofs.Valid.{stateAt}
 use Rattle.demands.proofs.Reached.{Sound, opened, opened-clear}
@@ -25,9 +24,9 @@ use Rattle.demands.proofs.Standing.{fresh-passes}
 
 -- ---- adds one after the other
 
-adds-laid : (d : Drive) (ss : List pieces.Stream) (D : List ℕ) → changeCheck d D ≡ Clear → Placeables (d .capacity) D ss
-    → (after (stateAt d D) (addsOf ss) ≡ stateAt d (laid (d .capacity) D ss)) × AllDone (log (stateAt d D) (addsOf ss))
-unfolding addsOf after log AllDone laid Placeables
+adds-laid : (d : Drive) (ss : List Stream) (D : List ℕ) → changeCheck d D ≡ Clear → Placeables (d .capacity) D ss
+    → (after (stateAt d D) (addsOf ss) ≡ stateAt d (allPlaced (d .capacity) D ss)) × AllDone (log (stateAt d D) (addsOf ss))
+unfolding addsOf after log AllDone allPlaced Placeables
 adds-laid d [] D e p = (refl, tt)
 adds-laid d (s ∷ ss) D e p =
     let k = add-passes d D (s .name) (s .weight) e (p .0) (p .1) in
@@ -37,8 +36,8 @@ adds-laid d (s ∷ ss) D e p =
     (ap (λ (u : State). after u (addsOf ss)) m ∙ r .0, (rw k refl, subst (λ (u : State). AllDone (log u (addsOf ss))) (sym m) (r .1)))
 
 -- Streams that can be added to idle leaves one after the other make the board of an open and of an add for each of them, every one of them done.
-pub opened-adds : (C : ℕ) (B : List ℕ) → Openable C B → (ss : List pieces.Stream) → Placeables C (idle C B) ss
-    → (reach C B (addsOf ss) ≡ stateAt (driveAt C 1) (laid C (idle C B) ss)) × AllDone (log (opens C B) (addsOf ss))
+pub opened-adds : (C : ℕ) (B : List ℕ) → Openable C B → (ss : List Stream) → Placeables C (idle C B) ss
+    → (reach C B (addsOf ss) ≡ stateAt (driveAt C 1) (allPlaced C (idle C B) ss)) × AllDone (log (opens C B) (addsOf ss))
 opened-adds C B may ss p =
     let d = driveAt C 1 in
     let o = opened C B may in

@@ -5,7 +5,7 @@ mod Checks
 mod Answering
 mod Valid
 mod Reached
-mod Rows
+mod ServedNames
 mod Numbering
 mod Told
 mod Standing

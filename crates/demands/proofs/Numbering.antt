@@ -1,6 +1,5 @@
 -- How slots move a record, its round number among it, and what they certify: slots from the start of a round on say one number for C slots, and then the
--- next one.
--- Assumes nothing.
+-- next one. Assumes nothing.
 use mathlib.Core.Path.{_≡_, refl, sym, ap, ap₂, _∙_}
 use mathlib.Core.List.{List, [], _∷_}
 use Prim.Native.Nat.{ℕ, zero, suc, _+_, _*_, _/_, _%_, _^_, _≤_, _<_}
@@ -203,8 +202,7 @@ module _ (C : ℕ) (some : zero < C) (few : C < 4096) where
 
   -- i slots are i / C rounds and i % C slots
   by-rounds : (i : ℕ) → driveAfter (driveAt C 1) i ≡ driveAfter (start (i / C)) (i % C)
-  by-rounds i =
-      ap (driveAfter (start 0)) (sym (div-add-mod' i C))
+  by-rounds i = ap (driveAfter (start 0)) (sym (div-add-mod' i C))
       ∙ drive-append (start 0) (i / C * C) (i % C)
       ∙ ap (λ (d : Drive). driveAfter d (i % C)) (rounds-over (i / C) 0 ∙ ap start (let m : 0 + i / C ≡ i / C = omega arith in m))
 

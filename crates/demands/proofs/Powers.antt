@@ -1,6 +1,5 @@
 -- How often a stream is served in slots in a row over any number of rounds of one board, from any position: for a capacity that is a power of two, and for every
--- capacity.
--- Assumes nothing.
+-- capacity. Assumes nothing.
 use mathlib.Core.Path.{_≡_, sym, ap, subst, _∙_}
 use mathlib.Core.Bool.{true}
 use mathlib.Core.List.{List}
@@ -8,10 +7,10 @@ use Prim.Native.Nat.{ℕ, zero, suc, _+_, _-_, _*_, _/_, _%_, _^_, _≤_, _<_}
 use native.Mathlib.Nat.{mod-lt, div-add-mod'}
 use native.Mathlib.Omega.{arith}
 use native.Mathlib.Decide.{decLe}
-use Rattle.sequences.specs.Board.{nextFrom, Position}
+use Rattle.sequences.specs.SlotOrder.{nextFrom, Position}
 use Rattle.sequences.specs.Serving.{inRun, leavesFrom, afterSlots, countList}
 use Rattle.sequences.proofs.Laws.{round-ends, power-window}
-use Rattle.pieces.specs.Board.{good, weight, number}
+use Rattle.pieces.specs.Board.{good, weight, pieceCount}
 use Rattle.demands.specs.Rounds.{Near, bound, powerBound}
 use Rattle.demands.specs.Stretches.{PowerOfTwo}
 -- A history of three rounds and a half is computed before anything is proved, so that a wrong bound falls on it first.
@@ -29,7 +28,7 @@ power-runs C p t at power a l multiple =
     subst P (sym (power .1)) (λ here fits. power-window (power .0) a l p t here multiple fits) at
 
 pub stream-power : (C : ℕ) (B : List ℕ) (x p t : ℕ) → Position C p → PowerOfTwo C → zero < weight C B x
-    → Near (C * countList (holds B x) (leavesFrom C p t)) (weight C B x * t) (powerBound C (number C B x))
+    → Near (C * countList (holds B x) (leavesFrom C p t)) (weight C B x * t) (powerBound C (pieceCount C B x))
 stream-power C B x p t at power held = stream-near C B x p t at C t (at .some) (power-runs C p t at power) held
 
 -- ---- every C: in a whole round a stream is served just its weight, so that slots over several rounds are as far from its share as slots within one

@@ -1,5 +1,4 @@
--- What holds of every record and board that calls from an opened board lead to: the board is good, and what is held is on it.
--- Assumes nothing.
+-- What holds of every record and board that calls from an opened board lead to: the board is good, and what is held is on it. Assumes nothing.
 use mathlib.Core.Path.{_≡_, refl, sym, _∙_}
 use mathlib.Core.Bool.{Bool, true, false, cond}
 use mathlib.Core.List.{List, [], _∷_, _++_}
@@ -22,7 +21,8 @@ use Rattle.calls.specs.Refusals.{openCheck, addCheck, removeCheck, changeCheck}
 use Rattle.calls.specs.Results.{idleBoard, movedOn}
 use Rattle.calls.proofs.Laws.{number-some, open-sized, add-clear, remove-clear}
 use Rattle.demands.specs.Histories.{Act, Add, Remove, Slot, Round, Report, Fresh, State, Openable, does, says, after, reach, log}
-use Rattle.demands.specs.Holdings.{Stream, without, changed, heldFrom, held, heldOf, total}
+use Rattle.pieces.specs.Streams.{Stream, heldOf, total}
+use Rattle.demands.specs.Holdings.{without, heldAfter, heldFrom, held}
 use Rattle.demands.proofs.Valid.{Valid, stateAt, slot-clear, valid-next}
 
 -- The board is good, and every name has as many leaves as it holds.
@@ -35,7 +35,7 @@ pub record Sound (s : State) (hs : List Stream) : Type 0 where
 
 -- what is held after one act
 abbrev next : Act → State → List Stream → List Stream
-next a s hs = cond (eqb (says a s .number) 0) (changed a hs) hs
+next a s hs = cond (eqb (says a s .number) 0) (heldAfter a hs) hs
 
 -- ---- the streams of other names
 
@@ -79,7 +79,7 @@ module _ (s : State) (hs : List Stream) (is : Sound s hs) where
   abbrev B : List ℕ
   B = s .board
 
-  added : (x w : ℕ) → Placeable C B x w → Sound (stateAt (s .drive) (placed C B x w)) (changed (Add x w) hs)
+  added : (x w : ℕ) → Placeable C B x w → Sound (stateAt (s .drive) (placed C B x w)) (heldAfter (Add x w) hs)
   unfolding total heldOf
   added x w m =
       let i = placed-idle C B x w m in
@@ -95,7 +95,7 @@ module _ (s : State) (hs : List Stream) (is : Sound s hs) where
         nameless = rw (ne-eqb x 0 (m .named)) (let z = is .nameless in omega arith);
       }
 
-  cleared : (x : ℕ) → Removable C B x → Sound (stateAt (s .drive) (removed C B x)) (changed (Remove x) hs)
+  cleared : (x : ℕ) → Removable C B x → Sound (stateAt (s .drive) (removed C B x)) (heldAfter (Remove x) hs)
   cleared x m =
       let i = removed-idle C B x m in
       let j = is .idle in

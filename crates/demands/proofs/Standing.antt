@@ -1,5 +1,4 @@
--- What holds of a good board that has on it what is held: what the calls answer there, and what a full round serves.
--- Assumes nothing.
+-- What holds of a good board that has on it what is held: what the calls answer there, and what a full round serves. Assumes nothing.
 use mathlib.Core.Path.{_≡_, refl, sym, ap, _∙_}
 use mathlib.Core.Bool.{true, false, not, cond}
 use mathlib.Core.List.{List, [], _∷_}
@@ -11,22 +10,23 @@ use lib.ListN.{length}
 use borrow.Author.Tests.{ne-eqb, le-ltb}
 use Rattle.general.proofs.Laws.{clash}
 use Rattle.sequences.specs.Serving.{leavesFrom, afterSlots}
-use Rattle.pieces.specs.Board.{good, weight, number}
+use Rattle.sequences.specs.Scanning.{occurrences}
+use Rattle.pieces.specs.Board.{good, weight}
 use Rattle.calls.specs.declared.Drive.{Drive}
 use Rattle.calls.specs.declared.Refusal.the-variants.{Midround, Damaged, Name, Weight, Taken, Room}
 use Rattle.calls.specs.declared.Check.the-variants.{Clear}
-use Rattle.calls.specs.Refusals.{firstOf, applies, asked, askedAdd, askedName, askedOutput, addMay, removeMay, slotMay, roundMay, reportMay, changeMay, addCheck, removeCheck, slotCheck, roundCheck, reportCheck, changeCheck}
+use Rattle.calls.specs.Refusals.{firstOf, applies, asked, askedAdd, askedName, askedOutput, addMay, admitMay, removeMay, slotMay, roundMay, reportMay, changeMay, addCheck, removeCheck, slotCheck, roundCheck, reportCheck, changeCheck}
 use Rattle.calls.specs.Results.{addedIdle}
 use Rattle.calls.proofs.Laws.{change-start, admit-change, admit-clear, add-full}
 use Rattle.demands.specs.Histories.{Act, Add, Remove, Slot, Round, Report, Fresh, State, does, says}
-use Rattle.demands.specs.Refusing.{otherChecks}
-use Rattle.demands.specs.Holdings.{Stream, changesBoard, heldOf, total}
-use Rattle.demands.specs.Rounds.{namesFrom, FullRound, inARow, times, Near, bound}
+use Rattle.pieces.specs.Streams.{Stream, heldOf, total}
+use Rattle.demands.specs.Holdings.{changesBoard}
+use Rattle.demands.specs.Rounds.{namesFrom, FullRound, inARow, Near, bound}
 use Rattle.demands.proofs.Checks.{none-applies, first-after}
 use Rattle.demands.proofs.Answering.{undamaged, room-number, room-says}
 use Rattle.demands.proofs.Valid.{slot-clear, add-midround, remove-midround, fresh-midround}
 use Rattle.demands.proofs.Reached.{Sound}
-use Rattle.demands.proofs.Rows.{full-names, row, times-on}
+use Rattle.demands.proofs.ServedNames.{full-names, row, times-on}
 use Rattle.demands.proofs.Streams.{stream-fair, stream-round}
 
 module _ (s : State) (hs : List Stream) (is : Sound s hs) where
@@ -73,7 +73,7 @@ module _ (s : State) (hs : List Stream) (is : Sound s hs) where
       ∙ none-applies q Midround (Damaged ∷ []) (rw start refl) (none-applies q Damaged [] (ap not (is .fine)) refl)
 
   -- at position 1 an add of a new name passes the checks beside ROOM
-  pub others-pass : (x w : ℕ) → s .drive .position ≡ 1 → (x ≡ 0 → ⊥) → (w ≡ 0 → ⊥) → heldOf x hs ≡ 0 → firstOf otherChecks (askedAdd (s .drive) (s .board) x w) ≡ Clear
+  pub others-pass : (x w : ℕ) → s .drive .position ≡ 1 → (x ≡ 0 → ⊥) → (w ≡ 0 → ⊥) → heldOf x hs ≡ 0 → firstOf admitMay (askedAdd (s .drive) (s .board) x w) ≡ Clear
   unfolding slotCheck applies
   others-pass x w start named some free =
       let q = askedAdd (s .drive) B x w in
@@ -86,11 +86,11 @@ module _ (s : State) (hs : List Stream) (is : Sound s hs) where
       (none-applies q Taken [] (rw z refl) refl))))
 
   -- and then ROOM goes by what is held
-  pub room : (x w : ℕ) → firstOf otherChecks (askedAdd (s .drive) (s .board) x w) ≡ Clear → says (Add x w) s .number ≡ cond (ltb (s .drive .capacity - total hs) w) 10 0
+  pub room : (x w : ℕ) → firstOf admitMay (askedAdd (s .drive) (s .board) x w) ≡ Clear → says (Add x w) s .number ≡ cond (ltb (s .drive .capacity - total hs) w) 10 0
   unfolding addCheck
   room x w e =
       let i : C - total hs ≡ weight C B 0 = let j = is .idle in omega arith in
-      rw (first-after (askedAdd (s .drive) B x w) otherChecks (Room ∷ []) e, i) (room-number (ltb (weight C B 0) w))
+      rw (first-after (askedAdd (s .drive) B x w) admitMay (Room ∷ []) e, i) (room-number (ltb (weight C B 0) w))
 
   -- which it says,
   pub room-told : (x w : ℕ) → says (Add x w) s .number ≡ 10 → says (Add x w) s .values ≡ (s .drive .capacity - total hs) ∷ []
@@ -116,14 +116,13 @@ module _ (s : State) (hs : List Stream) (is : Sound s hs) where
 
   module _ (rest : List Act) (full : FullRound s rest) where
     -- a full round serves a name as often as it holds
-    pub served-round : (x : ℕ) → (x ≡ 0 → ⊥) → times x (namesFrom s rest) ≡ heldOf x hs
-    served-round x named =
-        rw (full-names s rest (is .valid) full)
+    pub served-round : (x : ℕ) → (x ≡ 0 → ⊥) → occurrences x (namesFrom s rest) ≡ heldOf x hs
+    served-round x named = rw (full-names s rest (is .valid) full)
         (times-on B x (leavesFrom C 1 C) ∙ stream-round C B x (is .valid .at .some) (is .valid .at .few) ∙ is .names x named)
 
     -- and slots in a row of it serve the name its share
     pub served-fair : (x w i t : ℕ) → heldOf x hs ≡ w → zero < w → i + t ≤ s .drive .capacity
-        → Near (s .drive .capacity * times x (inARow i t (namesFrom s rest))) (w * t) (bound (s .drive .capacity) w)
+        → Near (s .drive .capacity * occurrences x (inARow i t (namesFrom s rest))) (w * t) (bound (s .drive .capacity) w)
     served-fair x w i t holds some within =
         let e = held-weight x w holds some in
         let f = rw e at (stream-fair C B x (is .valid .at .some) (is .valid .at .few) i t within (is .fine) (omega arith)) in

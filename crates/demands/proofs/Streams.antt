@@ -1,5 +1,4 @@
--- How often a stream is served on a good board: in slots in a row of a round, and in a whole round.
--- Assumes nothing.
+-- How often a stream is served on a good board: in slots in a row of a round, and in a whole round. Assumes nothing.
 use mathlib.Core.Path.{_≡_, refl, ap, _∙_}
 use mathlib.Core.Bool.{Bool, true, false, _&&_, and-true, and-false}
 use mathlib.Core.List.{List, [], _∷_}
@@ -13,10 +12,10 @@ use lib.ListN.{getD}
 use lib.Pow.{pow-pos}
 use borrow.Author.Tests.{eq-eqb, ne-eqb, le-leb, lt-leb, lt-ltb, le-ltb}
 use Rattle.general.specs.Tests.{one}
-use Rattle.sequences.specs.Board.{digits, Position}
+use Rattle.sequences.specs.SlotOrder.{digits, Position}
 use Rattle.sequences.specs.Serving.{inRun, leavesFrom, afterSlots, countList}
 use Rattle.sequences.proofs.Laws.{first-position, after-slots-valid, combine}
-use Rattle.pieces.specs.Board.{good, weight, number}
+use Rattle.pieces.specs.Board.{good, weight, pieceCount}
 use Rattle.pieces.proofs.Laws.{over-pieces, pieces-ones}
 use Rattle.calls.proofs.Laws.{leaves-times}
 use Rattle.demands.proofs.Windows.{round-window, leaves-within}
@@ -88,10 +87,10 @@ some-piece zero w C h g = omega arith
 some-piece (suc m) w C h g = omega arith
 
 -- a piece has at most C leaves
-has-pieces : (C : ℕ) (B : List ℕ) (x : ℕ) → C ≤ 4095 → zero < weight C B x → zero < number C B x
+has-pieces : (C : ℕ) (B : List ℕ) (x : ℕ) → C ≤ 4095 → zero < weight C B x → zero < pieceCount C B x
 has-pieces C B x few held =
     let most = over-pieces C B x (λ a l. 0) 0 1 C (λ a l. refl) (λ a h. refl) (λ a l multiple fits all. omega arith) few in
-    some-piece (number C B x) (weight C B x) C held (omega arith)
+    some-piece (pieceCount C B x) (weight C B x) C held (omega arith)
 
 -- ---- n slots in a row from p, where each run of 2 ^ l leaves is served 2 ^ l * T / K times, up to less than one
 
@@ -105,9 +104,8 @@ module _ (C : ℕ) (B : List ℕ) (x p n : ℕ) (at : Position C p) (K T : ℕ) 
   same f g h = leaves-within C p n f g at h
 
   -- the sum over the pieces of x, each a run
-  near-blocks : (K * countList (holdsIn B x 0 12) L ≤ weight C B x * T + number C B x * (K - 1)) × (weight C B x * T ≤ K * countList (holdsIn B x 0 12) L + number C B x * (K - 1))
-  near-blocks =
-      over-pieces C B x (λ a l. countList (holdsIn B x a l) L) K T (K - 1)
+  near-blocks : (K * countList (holdsIn B x 0 12) L ≤ weight C B x * T + pieceCount C B x * (K - 1)) × (weight C B x * T ≤ K * countList (holdsIn B x 0 12) L + pieceCount C B x * (K - 1))
+  near-blocks = over-pieces C B x (λ a l. countList (holdsIn B x a l) L) K T (K - 1)
       (λ a l. count-split (holdsIn B x a (suc l)) (holdsIn B x a l) (holdsIn B x (a + 2 ^ l) l) L (λ y. run-halves a l y (holds B x y)))
       (λ a h. same (holdsIn B x a 0) (λ (y : ℕ). false) (λ y q. run-leaf a y (holds B x y) (λ e. ne-eqb (getD B y 0) x (λ g. h (rw (← e) q) (rw (← e) g)))) ∙ count-none L)
       (λ a l multiple fits all.
@@ -116,7 +114,7 @@ module _ (C : ℕ) (B : List ℕ) (x p n : ℕ) (at : Position C p) (K T : ℕ) 
       rw e (omega arith))
       (let f = at .few in omega arith)
 
-  near : (K * countList (holds B x) L ≤ weight C B x * T + number C B x * (K - 1)) × (weight C B x * T ≤ K * countList (holds B x) L + number C B x * (K - 1))
+  near : (K * countList (holds B x) L ≤ weight C B x * T + pieceCount C B x * (K - 1)) × (weight C B x * T ≤ K * countList (holds B x) L + pieceCount C B x * (K - 1))
   near =
       let f = at .few in
       let all : countList (holdsIn B x 0 12) L ≡ countList (holds B x) L = same (holdsIn B x 0 12) (holds B x) (λ y q. rw (le-leb 0 y (omega arith), lt-ltb y 4096 (omega arith)) refl) in
@@ -124,9 +122,9 @@ module _ (C : ℕ) (B : List ℕ) (x p n : ℕ) (at : Position C p) (K T : ℕ) 
 
   -- a name is served w * T / K times, up to less than one for each of its pieces
   pub stream-near : zero < weight C B x
-      → (K * countList (holds B x) (leavesFrom C p n) < weight C B x * T + number C B x * K) × (weight C B x * T < K * countList (holds B x) (leavesFrom C p n) + number C B x * K)
+      → (K * countList (holds B x) (leavesFrom C p n) < weight C B x * T + pieceCount C B x * K) × (weight C B x * T < K * countList (holds B x) (leavesFrom C p n) + pieceCount C B x * K)
   stream-near held =
-      let m = number C B x in
+      let m = pieceCount C B x in
       let r = near in
       let k : K ≡ K - 1 + 1 = omega arith in
       let d : m * K ≡ m * (K - 1 + 1) = ap (λ (y : ℕ). m * y) k in
@@ -146,7 +144,7 @@ module _ (C : ℕ) (B : List ℕ) (x : ℕ) (some : zero < C) (few : C < 4096) w
       let w = round-window C some few i n within in
       let r = stream-near C B x p n (after-slots-valid C 1 i (first-position C some few)) K (w .over) (pow-pos (digits C)) (w .runs) held in
       let t = w .slots in
-      rw (← pieces-ones C B x (omega arith) fine) (combine K C (w .over) (countList (holds B x) (leavesFrom C p n)) (weight C B x) (number C B x) n (ones C) some (r .0) (r .1) (t .0) (t .1))
+      rw (← pieces-ones C B x (omega arith) fine) (combine K C (w .over) (countList (holds B x) (leavesFrom C p n)) (weight C B x) (pieceCount C B x) n (ones C) some (r .0) (r .1) (t .0) (t .1))
 
   -- in a whole round a name is served as often as it has leaves
   pub stream-round : countList (holds B x) (leavesFrom C 1 C) ≡ weight C B x

@@ -9,21 +9,23 @@ use lib.Dec.{eqb}
 use lib.ListN.{length, replicate}
 use borrow.Author.Tests.{eq-eqb}
 use Rattle.general.proofs.Laws.{clash}
-use Rattle.sequences.specs.Board.{Position}
+use Rattle.sequences.specs.SlotOrder.{Position}
 use Rattle.sequences.specs.Serving.{leavesFrom, afterSlots, countList}
 use Rattle.sequences.proofs.Laws.{after-slots-valid}
-use Rattle.pieces.specs.Board.{weight, number}
+use Rattle.sequences.specs.Scanning.{occurrences}
+use Rattle.pieces.specs.Board.{weight, pieceCount}
 use Rattle.calls.specs.Refusals.{addCheck, removeCheck, changeCheck}
 use Rattle.calls.specs.Results.{servedName, movedOn}
 use Rattle.calls.proofs.Laws.{refusal}
 use Rattle.demands.specs.Histories.{Act, Add, Remove, Slot, Round, Report, Fresh, State, does, says, after, log}
-use Rattle.demands.specs.Holdings.{Stream, changesBoard, heldOf}
-use Rattle.demands.specs.Rounds.{names, inARow, times, namesOn, Near, bound, powerBound}
+use Rattle.pieces.specs.Streams.{Stream, heldOf}
+use Rattle.demands.specs.Holdings.{changesBoard}
+use Rattle.demands.specs.Rounds.{names, inARow, namesOn, Near, bound, powerBound}
 use Rattle.demands.specs.Stretches.{noneDone, Still, PowerOfTwo, PowerFair, StillFair}
 use Rattle.demands.proofs.Streams.{holds}
 use Rattle.demands.proofs.Valid.{Valid, stateAt, slot-moves, valid-next}
 use Rattle.demands.proofs.Reached.{Sound}
-use Rattle.demands.proofs.Rows.{slot-names, row, times-on}
+use Rattle.demands.proofs.ServedNames.{slot-names, row, times-on}
 use Rattle.demands.proofs.Standing.{held-weight}
 use Rattle.demands.proofs.Powers.{stream-power, stream-still}
 
@@ -105,10 +107,9 @@ module _ (s : State) (hs : List Stream) (is : Sound s hs) (rest : List Act) (sti
 
   -- t slots in a row, from slot i on, serve what slots from a position serve
   in-a-row : (x i t : ℕ) → i + t ≤ length (names (log s rest))
-      → times x (inARow i t (names (log s rest))) ≡ countList (holds B x) (leavesFrom C (afterSlots C (s .drive .position) i) t)
-  in-a-row x i t h =
-      ap (λ (L : List ℕ). times x (inARow i t L)) (still-names s rest (is .valid) still)
-      ∙ ap (times x) (row C (s .drive .position) (length (names (log s rest))) i t B h)
+      → occurrences x (inARow i t (names (log s rest))) ≡ countList (holds B x) (leavesFrom C (afterSlots C (s .drive .position) i) t)
+  in-a-row x i t h = ap (λ (L : List ℕ). occurrences x (inARow i t L)) (still-names s rest (is .valid) still)
+      ∙ ap (occurrences x) (row C (s .drive .position) (length (names (log s rest))) i t B h)
       ∙ times-on B x (leavesFrom C (afterSlots C (s .drive .position) i) t)
 
   module _ (x w i t : ℕ) (holds : heldOf x hs ≡ w) (some : zero < w) (within : i + t ≤ length (names (log s rest))) where
@@ -118,10 +119,10 @@ module _ (s : State) (hs : List Stream) (is : Sound s hs) (rest : List Act) (sti
     at : Position C (afterSlots C (s .drive .position) i)
     at = after-slots-valid C (s .drive .position) i (is .valid .at)
 
-    power-row : PowerOfTwo C → (m : ℕ) → number C B x ≡ m → Near (C * times x (inARow i t (names (log s rest)))) (w * t) (powerBound C m)
+    power-row : PowerOfTwo C → (m : ℕ) → pieceCount C B x ≡ m → Near (C * occurrences x (inARow i t (names (log s rest)))) (w * t) (powerBound C m)
     power-row power m pieces = rw (in-a-row x i t within) (rw (e, pieces) at (stream-power C B x (afterSlots C (s .drive .position) i) t at power (omega (arith, e))))
 
-    still-row : Near (C * times x (inARow i t (names (log s rest)))) (w * t) (bound C w)
+    still-row : Near (C * occurrences x (inARow i t (names (log s rest)))) (w * t) (bound C w)
     still-row = rw (in-a-row x i t within) (rw e at (stream-still C B x (at .some) (at .few) (is .fine) (omega (arith, e)) (afterSlots C (s .drive .position) i) t at))
 
   -- where C is a power of two, a stream its share up to less than m C,

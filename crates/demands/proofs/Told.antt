@@ -1,6 +1,5 @@
 -- What the round number tells, from any state whose record is that of an opened or a read board, over any acts: slot i says i / C and leaf i % C of a round,
--- and full rounds are told by their number.
--- Assumes nothing.
+-- and full rounds are told by their number. Assumes nothing.
 use mathlib.Core.Path.{_≡_, refl, sym, ap, _∙_}
 use mathlib.Core.List.{List, _∷_}
 use Prim.Native.Nat.{ℕ, zero, suc, _+_, _-_, _*_, _/_, _%_, _^_, _≤_, _<_}
@@ -65,8 +64,7 @@ module _ (C : ℕ) (some : zero < C) (few : C < 4096) (s : State) (starts : s .d
 
     -- slot i of them is slot n + i of all
     later-number : (i : ℕ) → i < slotsIn (log (after s acts) (Slot ∷ rest)) → ofSlot (certificates (log (after s acts) (Slot ∷ rest))) i .round ≡ (n + i) / C % 2 ^ 64
-    later-number i h =
-        ap (λ (c : Certificate). c .round) (slot-certifies (after s acts) (Slot ∷ rest) i h)
+    later-number i h = ap (λ (c : Certificate). c .round) (slot-certifies (after s acts) (Slot ∷ rest) i h)
         ∙ ap (λ (d : Drive). driveAfter d i .round) drive-counted
         ∙ ap (λ (d : Drive). d .round) (sym (drive-append (driveAt C 1) n i))
         ∙ number-at C some few (n + i)

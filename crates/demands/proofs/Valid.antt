@@ -1,13 +1,12 @@
--- A record and a board that slot takes: the checks 1 to 3 pass.
--- Assumes nothing.
+-- A record and a board that slot takes: the checks 1 to 3 pass. Assumes nothing.
 use mathlib.Core.Path.{_≡_, refl, _∙_}
 use mathlib.Core.List.{List, [], _∷_}
 use Prim.Native.Nat.{ℕ, _-_, _^_, _≤_}
 use native.Mathlib.Omega.{arith}
 use lib.ListN.{length}
 use borrow.Author.Tests.{ne-eqb, le-ltb}
-use Rattle.sequences.specs.Board as board
-use Rattle.sequences.specs.Board.{digits}
+use Rattle.sequences.specs.SlotOrder as board
+use Rattle.sequences.specs.SlotOrder.{digits}
 use Rattle.sequences.proofs.Laws.{next-position}
 use Rattle.calls.specs.declared.Drive.{Drive}
 use Rattle.calls.specs.declared.Refusal.the-variants.{Capacity, Short, Position, Midround, Damaged, Name, Weight, Taken, Absent, Room}
@@ -66,6 +65,5 @@ module _ (s : State) where
 
   pub fresh-midround : Valid s → (s .drive .position ≡ 1 → ⊥) → changeCheck (s .drive) (s .board) ≡ Refused Midround
   unfolding changeCheck slotCheck applies
-  fresh-midround is away =
-      first-after (asked (s .drive) (s .board)) slotMay (Midround ∷ Damaged ∷ []) (slot-clear is)
+  fresh-midround is away = first-after (asked (s .drive) (s .board)) slotMay (Midround ∷ Damaged ∷ []) (slot-clear is)
       ∙ rw (ne-eqb (s .drive .position) 1 away) refl

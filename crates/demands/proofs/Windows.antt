@@ -9,7 +9,7 @@ use native.Mathlib.Decide.{decLe}
 use lib.Count.{ones}
 use lib.ListN.{drop}
 use borrow.Author.Tests.{lt-ltb, eqb-true}
-use Rattle.sequences.specs.Board.{digits, bit, column, leafAt, servedFrom, nextFrom, after, Position}
+use Rattle.sequences.specs.SlotOrder.{digits, bit, column, leafAt, servedFrom, nextFrom, positionAfter, Position}
 use Rattle.sequences.specs.Serving.{inRun, left, leavesFrom, afterSlots, countList}
 use Rattle.sequences.proofs.Laws.{first-position, next-position, leaf-below, after-slots-valid, left-first, left-after, passed-one, served-serves, after-more-slots, walk, run-window, slots-spread}
 
@@ -70,7 +70,7 @@ clear-leaves C p at e zero = refl
 clear-leaves C p at e (suc n) =
     let b = eqb-true (bit C (column C (suc p))) 1 (rw e at (served-serves C p at)) in
     let same : servedFrom C (suc p) ≡ servedFrom C p = omega arith in
-    ap (λ (q : ℕ). leafAt C q ∷ leavesFrom C (after (digits C) q) n) same
+    ap (λ (q : ℕ). leafAt C q ∷ leavesFrom C (positionAfter (digits C) q) n) same
 
 -- from the term after one that serves, the others
 set-leaves : (C p q : ℕ) → suc p < 2 ^ digits C → servedFrom C p ≡ p → ((n : ℕ) → leavesFrom C p n ≡ leavesFrom C q n) → (n : ℕ) → leavesFrom C (suc p) n ≡ leavesFrom C (nextFrom C q) n

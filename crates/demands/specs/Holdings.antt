@@ -2,14 +2,10 @@
 -- Assumes nothing.
 use mathlib.Core.Bool.{Bool, true, false, cond}
 use mathlib.Core.List.{List, [], _∷_}
-use Prim.Native.Nat.{ℕ, _+_}
+use Prim.Native.Nat.{ℕ}
 use lib.Dec.{eqb}
+use Rattle.pieces.specs.Streams.{Stream}
 use Rattle.demands.specs.Histories.{Act, Add, Remove, Slot, Round, Report, Fresh, Event, opens, log}
-
--- A name and the weight it holds.
-pub record Stream : Type 0 where
-  pub name : ℕ
-  pub weight : ℕ
 
 -- The streams of other names than x.
 unfoldable pub without : ℕ → List Stream → List Stream
@@ -17,13 +13,13 @@ without x [] = []
 without x (h ∷ hs) = cond (eqb (h .name) x) (without x hs) (h ∷ without x hs)
 
 -- What is held after an act that is done, where hs was held before.
-abbrev pub changed : Act → List Stream → List Stream
-changed (Add x w) hs = record { name = x; weight = w } ∷ hs
-changed (Remove x) hs = without x hs
-changed Slot hs = hs
-changed (Round O) hs = hs
-changed (Report x) hs = hs
-changed Fresh hs = hs
+abbrev pub heldAfter : Act → List Stream → List Stream
+heldAfter (Add x w) hs = record { name = x; weight = w } ∷ hs
+heldAfter (Remove x) hs = without x hs
+heldAfter Slot hs = hs
+heldAfter (Round O) hs = hs
+heldAfter (Report x) hs = hs
+heldAfter Fresh hs = hs
 
 -- Only these change what is held, and answer the idle leaves.
 abbrev pub isChange : Act → Bool
@@ -46,17 +42,8 @@ changesBoard Fresh = true
 -- What is held after events. A refused act changes nothing.
 unfoldable pub heldFrom : List Stream → List Event → List Stream
 heldFrom hs [] = hs
-heldFrom hs (e ∷ es) = heldFrom (cond (eqb (e .answer .number) 0) (changed (e .act) hs) hs) es
+heldFrom hs (e ∷ es) = heldFrom (cond (eqb (e .answer .number) 0) (heldAfter (e .act) hs) hs) es
 
 -- What is held after open and then acts.
 abbrev pub held : ℕ → List ℕ → List Act → List Stream
 held C B acts = heldFrom [] (log (opens C B) acts)
-
--- The weight held of the name x, and the sum of the weights held.
-unfoldable pub heldOf : ℕ → List Stream → ℕ
-heldOf x [] = 0
-heldOf x (h ∷ hs) = cond (eqb (h .name) x) (h .weight) 0 + heldOf x hs
-
-unfoldable pub total : List Stream → ℕ
-total [] = 0
-total (h ∷ hs) = h .weight + total hs

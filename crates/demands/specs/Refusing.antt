@@ -1,4 +1,4 @@
--- What the demands say of refusals: those that a call may answer, what a refusal leaves, and the checks of an add beside ROOM.
+-- What the demands say of refusals: those that a call may answer, and what a refusal leaves.
 -- Assumes nothing.
 use mathlib.Core.Bool.{cond}
 use mathlib.Core.List.{List, [], _∷_, map}
@@ -6,7 +6,6 @@ use Prim.Native.Nat.{ℕ}
 use lib.Dec.{eqb}
 use Rattle.pieces.specs.Board.{weight}
 use Rattle.calls.specs.declared.Refusal.{Refusal}
-use Rattle.calls.specs.declared.Refusal.the-variants.{Capacity, Short, Position, Midround, Damaged, Name, Weight, Taken}
 use Rattle.calls.specs.Refusals.{addMay, removeMay, slotMay, roundMay, reportMay, changeMay}
 use Rattle.calls.specs.Answers.{Answer}
 use Rattle.calls.specs.Results.{roundedOutput}
@@ -22,13 +21,13 @@ mayAnswer (Report x) = reportMay
 mayAnswer Fresh = changeMay
 
 -- The output that a call is lent, and what it leaves there. Only round is lent one.
-abbrev pub lent : Act → List ℕ
-lent (Add x w) = []
-lent (Remove x) = []
-lent Slot = []
-lent (Round O) = O
-lent (Report x) = []
-lent Fresh = []
+abbrev pub lentOutput : Act → List ℕ
+lentOutput (Add x w) = []
+lentOutput (Remove x) = []
+lentOutput Slot = []
+lentOutput (Round O) = O
+lentOutput (Report x) = []
+lentOutput Fresh = []
 
 abbrev pub writes : Act → State → List ℕ
 writes (Add x w) s = []
@@ -45,7 +44,3 @@ zeros vs = map (λ v. 0) vs
 -- What a refusal in the state s says for values: as many zeros, but for ROOM the idle leaves.
 abbrev pub refusedValues : State → Answer → List ℕ
 refusedValues s a = cond (eqb (a .number) 10) (weight (s .drive .capacity) (s .board) 0 ∷ []) (zeros (a .values))
-
--- The checks of an add beside ROOM.
-abbrev pub otherChecks : List Refusal
-otherChecks = Capacity ∷ Short ∷ Position ∷ Midround ∷ Damaged ∷ Name ∷ Weight ∷ Taken ∷ []

@@ -8,25 +8,25 @@ use lib.Count.{ones}
 use lib.Dec.{eqb}
 use lib.ListN.{length, getD, take, drop}
 use Rattle.sequences.specs.Sequences.{wss, tss}
-use Rattle.sequences.specs.Board.{digits, start, after as next}
-use Rattle.sequences.specs.Serving.{countList, serves}
+use Rattle.sequences.specs.SlotOrder.{digits, start, positionAfter}
+use Rattle.sequences.specs.Serving.{serves}
 use Rattle.calls.specs.Records.{movedTo}
 use Rattle.calls.specs.Answers.{Answer}
 use Rattle.demands.specs.Histories.{Act, Add, Remove, Slot, Round, Report, Fresh, State, Event, does, says, log}
 
 -- The name that an act serves, before those that later acts serve: a slot that is not refused says it first.
-abbrev pub servedBy : Act → Answer → List ℕ → List ℕ
-servedBy (Add x w) a later = later
-servedBy (Remove x) a later = later
-servedBy Slot a later = cond (eqb (a .number) 0) (getD (a .values) 0 0 ∷ later) later
-servedBy (Round O) a later = later
-servedBy (Report x) a later = later
-servedBy Fresh a later = later
+abbrev pub namesBy : Act → Answer → List ℕ → List ℕ
+namesBy (Add x w) a later = later
+namesBy (Remove x) a later = later
+namesBy Slot a later = cond (eqb (a .number) 0) (getD (a .values) 0 0 ∷ later) later
+namesBy (Round O) a later = later
+namesBy (Report x) a later = later
+namesBy Fresh a later = later
 
 -- The names that the slots of events served, in their order.
 unfoldable pub names : List Event → List ℕ
 names [] = []
-names (e ∷ es) = servedBy (e .act) (e .answer) (names es)
+names (e ∷ es) = namesBy (e .act) (e .answer) (names es)
 
 -- The names that a slot serves and then the slots among the acts that follow.
 abbrev pub namesFrom : State → List Act → List ℕ
@@ -54,15 +54,11 @@ pub record InTurn (s : State) : Type 0 where
   pub said :
       let leaf = leafListed (s .drive .capacity) (s .drive .position + over) in
       says Slot s .values ≡ getD (s .board) leaf 0 ∷ leaf ∷ over ∷ s .drive .round ∷ []
-  pub moved : does Slot s .drive ≡ movedTo (s .drive) (next (digits (s .drive .capacity)) (s .drive .position + over))
+  pub moved : does Slot s .drive ≡ movedTo (s .drive) (positionAfter (digits (s .drive .capacity)) (s .drive .position + over))
 
 -- The t slots from slot i on, counted from 0.
 abbrev pub inARow : ℕ → ℕ → List ℕ → List ℕ
 inARow i t served = take t (drop i served)
-
--- How often x stands in a list.
-abbrev pub times : ℕ → List ℕ → ℕ
-times x served = countList (λ y. eqb y x) served
 
 -- The names on leaves of the board B.
 abbrev pub namesOn : List ℕ → List ℕ → List ℕ

@@ -6,10 +6,12 @@ use mathlib.Core.List.{List, [], _∷_}
 use Prim.Native.Nat.{ℕ, zero, _+_, _*_, _^_, _≤_, _<_}
 use lib.Dec.{eqb}
 use lib.ListN.{length}
-use Rattle.pieces.specs.Board.{number}
+use Rattle.sequences.specs.Scanning.{occurrences}
+use Rattle.pieces.specs.Board.{pieceCount}
 use Rattle.demands.specs.Histories.{Act, State, Event, log}
-use Rattle.demands.specs.Holdings.{Stream, changesBoard, heldOf}
-use Rattle.demands.specs.Rounds.{inARow, times, Near, bound, powerBound}
+use Rattle.pieces.specs.Streams.{Stream, heldOf}
+use Rattle.demands.specs.Holdings.{changesBoard}
+use Rattle.demands.specs.Rounds.{inARow, Near, bound, powerBound}
 
 -- A change of the board that is done: an add, a remove or a fresh layout that answers 0.
 abbrev pub isDone : Event → Bool
@@ -32,8 +34,8 @@ PowerOfTwo C = (n : ℕ) × (C ≡ 2 ^ n)
 -- the board, hs what is held on it.
 abbrev pub PowerFair : ℕ → List ℕ → List Stream → List ℕ → Type 0
 PowerFair C B hs served =
-    (x w m i t : ℕ) → heldOf x hs ≡ w → zero < w → number C B x ≡ m → i + t ≤ length served → Near (C * times x (inARow i t served)) (w * t) (powerBound C m)
+    (x w m i t : ℕ) → heldOf x hs ≡ w → zero < w → pieceCount C B x ≡ m → i + t ≤ length served → Near (C * occurrences x (inARow i t served)) (w * t) (powerBound C m)
 
 -- In any t successive ones of them a stream of weight w is served s times, and C s and w t differ by less than m C + w h, with m ones in w and h in C.
 abbrev pub StillFair : ℕ → List Stream → List ℕ → Type 0
-StillFair C hs served = (x w i t : ℕ) → heldOf x hs ≡ w → zero < w → i + t ≤ length served → Near (C * times x (inARow i t served)) (w * t) (bound C w)
+StillFair C hs served = (x w i t : ℕ) → heldOf x hs ≡ w → zero < w → i + t ≤ length served → Near (C * occurrences x (inARow i t served)) (w * t) (bound C w)

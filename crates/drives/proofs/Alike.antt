@@ -39,8 +39,7 @@ module _ (a b : Drive) (ec : a .capacity ≡ b .capacity) (ep : a .position ≡ 
   pub outcomes-alike : (B : List ℕ) (os : List Order) → outcomes (doing a) (saying a) B os ≡ outcomes (doing b) (saying b) B os
   unfolding outcomes
   outcomes-alike B [] = refl
-  outcomes-alike B (o ∷ os) =
-      rw (outcomes-alike (carriedBoard a B o) os, carried-alike B o, board-alike B o) refl
+  outcomes-alike B (o ∷ os) = rw (outcomes-alike (carriedBoard a B o) os, carried-alike B o, board-alike B o) refl
 
   pub ran-alike : (B L : List ℕ) → (ranBoard a B L ≡ ranBoard b B L) × (ranList a B L ≡ ranList b B L)
   unfolding ranBoard ranList

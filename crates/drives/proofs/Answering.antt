@@ -122,8 +122,7 @@ module _ (a b : Drive) (B L : List ℕ) where
   change-within ns o c queue waits m now = go (wayOf a b B L o) refl
     where
       go : (k : Way) → wayOf a b B L o ≡ k → zeroOr (changedAnswerBy k a B L o .number) ns ≡ true
-      go (way.Refused r) e =
-          way-within ns (listCheck a b B (length L)) (waitsIf (bothStart a b) L) (orderCheck (a .capacity) B o) r
+      go (way.Refused r) e = way-within ns (listCheck a b B (length L)) (waitsIf (bothStart a b) L) (orderCheck (a .capacity) B o) r
           (part-within ns (1 ∷ 2 ∷ 3 ∷ []) (listCheck a b B (length L)) c (pair-within a b B (tooShort (length L)))) m e
       go way.Wait e = by-bool (full L) (λ f. rw f queue) (λ f. rw f waits)
       go way.Now e = now (now-both a b B L o e .own)

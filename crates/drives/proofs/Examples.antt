@@ -4,7 +4,7 @@ use mathlib.Core.Path.{_≡_, refl}
 use mathlib.Core.List.{List, [], _∷_}
 use Prim.Native.Nat.{ℕ}
 use lib.ListN.{replicate, set}
-use Rattle.sequences.specs.Board.{digits}
+use Rattle.sequences.specs.SlotOrder.{digits}
 use Rattle.pieces.specs.Board.{uniform, whole, pieces, single, sound}
 use Rattle.calls.specs.declared.Refusal.the-variants.{Capacity, Short, Position, Midround}
 use Rattle.calls.specs.declared.Check.the-variants.{Clear, Refused}

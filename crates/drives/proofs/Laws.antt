@@ -1,6 +1,5 @@
 -- The laws of the calls for two drives that upper crates cite: no second answer fits; what a refusal and a wait leave as it was; that only the numbers of its list
--- are answered; when a change is made at once and when the list is run; that neither drive comes first; and that one is two.
--- Assumes nothing.
+-- are answered; when a change is made at once and when the list is run; that neither drive comes first; and that one is two. Assumes nothing.
 use mathlib.Core.Path.{_≡_, refl, ap, _∙_}
 use mathlib.Core.Bool.{Bool, true, false, not}
 use mathlib.Core.List.{List, [], _∷_}
@@ -15,15 +14,13 @@ use Rattle.calls.specs.declared.Refusal.{Refusal}
 use Rattle.calls.specs.declared.Refusal.the-variants.{Midround}
 use Rattle.calls.specs.declared.Check.{Check}
 use Rattle.calls.specs.declared.Check.the-variants.{Clear, Refused}
+use Rattle.calls.specs.declared.Checked.{Checked}
 use Rattle.calls.specs.declared.Served.{Served}
-use Rattle.calls.specs.declared.Rounded.{Rounded}
-use Rattle.calls.specs.declared.Refreshed.{Refreshed}
 use Rattle.calls.specs.declared.Reported.{Reported}
 use Rattle.calls.specs.Refusals.{zeroOr, refuseIf, numbers, among, asked, askedName, askedOutput, slotMay, roundMay, reportMay, changeMay, roundCheck, reportCheck, changeCheck}
-use Rattle.calls.specs.Answers.{Answer, servingAnswer, roundingAnswer, refreshingAnswer, reportAnswer}
-use Rattle.calls.specs.Results.{ifClear}
+use Rattle.calls.specs.Answers.{Answer, servingAnswer, reportAnswer, checkAnswer}
 use Rattle.calls.specs.Results as plain
-use Rattle.calls.proofs.Laws.{first-clear, then-clear, Refuses, refuses, refusal, may, within-among, first-within, then-within, if-within, covers, part-within}
+use Rattle.calls.proofs.Laws.{first-clear, then-clear, Refuses, refuses, refusal, may, within-among, first-within, then-within, if-within, covers, part-within, either-same}
 use Rattle.sheets.specs.declared.Saved.{Saved}
 use Rattle.sheets.specs.Sheet.{blocks}
 use Rattle.sheets.specs.Forms.{sizeOf, savingCheck, savedOutputAs}
@@ -38,12 +35,12 @@ use Rattle.orders.specs.Results.{addOrder, removeOrder}
 use Rattle.drives.specs.Checks.{listCheck, lookCheck, bothStart, wayOf, startCheck, pairRoundCheck, pairReportCheck, pairSaveCheck, levelCheck, pairPiecesCheck, pairFreshCheck}
 use Rattle.drives.specs.Results.{changed, changedBoard, changedList, boardThen, listThen, servedAnswer, servedBoard, servedList, roundedAnswer, reportedAnswer, savedAnswer, savedPiecesAnswer, savedPiecesOutput, refreshedAnswer, refreshedBoard}
 use Rattle.drives.specs.Promises.{Orders, Serves, Rounds, Reports, Saves, SavesPieces, Refreshes}
-use Rattle.drives.proofs.Pairs.{pair-clear, pair-swap, start-swap}
+use Rattle.drives.proofs.PairChecks.{pair-clear, pair-swap, start-swap}
 use Rattle.drives.proofs.Alike.{ran-alike}
 use Rattle.drives.proofs.Answering.{pair-within, behind-within, four-within, start-both, add-answers, remove-answers, change-still}
 -- ---- the checks: once they find nothing each record passes those of slot, both have one C, and nothing lent is too short; and neither record comes first
 
-pub use Rattle.drives.proofs.Pairs.{Paired, pair-clear, clear-pair, pair-vouch, pair-swap, start-swap}
+pub use Rattle.drives.proofs.PairChecks.{Paired, pair-clear, clear-pair, pair-vouch, pair-swap, start-swap}
 -- ---- one is two: with one record in both places each call is that of one drive
 
 pub use Rattle.drives.proofs.Single.{one-start, one-list, one-look, one-way, change-one-is-two, slot-one-is-two, round-one-is-two, report-one-is-two, save-one-is-two, save-pieces-one-is-two, fresh-one-is-two}
@@ -131,10 +128,6 @@ module _ (a b : Drive) (B L : List ℕ) where
 
 -- ---- slot
 
-either-same : (k : Check) (X : List ℕ) → ifClear k X X ≡ X
-either-same Clear X = refl
-either-same (Refused r) X = refl
-
 module _ (a b : Drive) (B L : List ℕ) where
   pub slot-unique : {r s : Served} {E F G H : List ℕ} → Serves a b B L r E F → Serves a b B L s G H → (r ≡ s) × (E ≡ G) × (F ≡ H)
   slot-unique p q = (unique (p .0) (q .0), unique (p .2) (q .2), unique (p .3) (q .3))
@@ -162,19 +155,18 @@ module _ (a b : Drive) (B L : List ℕ) where
 -- ---- round
 
 module _ (a b : Drive) (B O : List ℕ) where
-  pub round-unique : {r s : Rounded} {E F : List ℕ} → Rounds a b B O r E → Rounds a b B O s F → (r ≡ s) × (E ≡ F)
+  pub round-unique : {r s : Checked} {E F : List ℕ} → Rounds a b B O r E → Rounds a b B O s F → (r ≡ s) × (E ≡ F)
   round-unique p q = (unique (p .0) (q .0), unique (p .2) (q .2))
 
-  pub round-refused : {r : Rounded} {E : List ℕ} → Rounds a b B O r E → Refuses (roundingAnswer (r .answer)) → (r .drive ≡ a) × (E ≡ O)
+  pub round-refused : {r : Checked} {E : List ℕ} → Rounds a b B O r E → Refuses (checkAnswer (r .answer)) → (r .drive ≡ a) × (E ≡ O)
   round-refused p h = rw (p .0, p .2, refusal (pairRoundCheck a b B (length O)) (refuses (p .1) h) .1) (refl, refl)
 
   pub round-answers : among (roundedAnswer a b B O .number) roundMay ≡ true
   unfolding pairRoundCheck roundCheck covers
-  round-answers =
-      within-among roundMay (pairRoundCheck a b B (length O))
+  round-answers = within-among roundMay (pairRoundCheck a b B (length O))
       (behind-within a b B (numbers roundMay) (roundCheck a B (length O)) refl (first-within roundMay (askedOutput a B (length O) (a .capacity))))
 
-  pub round-may : {r : Rounded} {E : List ℕ} → Rounds a b B O r E → among (roundingAnswer (r .answer) .number) roundMay ≡ true
+  pub round-may : {r : Checked} {E : List ℕ} → Rounds a b B O r E → among (checkAnswer (r .answer) .number) roundMay ≡ true
   round-may p = may roundMay (p .1) round-answers
 
 -- ---- report
@@ -188,8 +180,7 @@ module _ (a b : Drive) (B : List ℕ) (x : ℕ) where
 
   pub report-answers : among (reportedAnswer a b B x .number) reportMay ≡ true
   unfolding pairReportCheck reportCheck covers
-  report-answers =
-      within-among reportMay (pairReportCheck a b B x)
+  report-answers = within-among reportMay (pairReportCheck a b B x)
       (behind-within a b B (numbers reportMay) (reportCheck a B x) refl (first-within reportMay (askedName a B x)))
 
   pub report-may : {r : Reported} → Reports a b B x r → among (reportAnswer (r .answer) .number) reportMay ≡ true
@@ -256,10 +247,10 @@ module _ (a b : Drive) (B O : List ℕ) where
 -- ---- the fresh layout
 
 module _ (a b : Drive) (B : List ℕ) where
-  pub fresh-unique : {r s : Refreshed} {E F : List ℕ} → Refreshes a b B r E → Refreshes a b B s F → (r ≡ s) × (E ≡ F)
+  pub fresh-unique : {r s : Checked} {E F : List ℕ} → Refreshes a b B r E → Refreshes a b B s F → (r ≡ s) × (E ≡ F)
   fresh-unique p q = (unique (p .0) (q .0), unique (p .2) (q .2))
 
-  pub fresh-refused : {r : Refreshed} {E : List ℕ} → Refreshes a b B r E → Refuses (refreshingAnswer (r .answer)) → (r .drive ≡ a) × (E ≡ B)
+  pub fresh-refused : {r : Checked} {E : List ℕ} → Refreshes a b B r E → Refuses (checkAnswer (r .answer)) → (r .drive ≡ a) × (E ≡ B)
   fresh-refused p h = rw (p .0, p .2, refusal (pairFreshCheck a b B) (refuses (p .1) h) .1) (refl, refl)
 
   pub fresh-answers : among (refreshedAnswer a b B .number) changeMay ≡ true
@@ -269,7 +260,7 @@ module _ (a b : Drive) (B : List ℕ) where
       within-among changeMay (pairFreshCheck a b B)
       (then-within ns (startCheck a b B) (changeCheck a B) (four-within a b B ns refl refl refl) (first-within changeMay (asked a B)))
 
-  pub fresh-may : {r : Refreshed} {E : List ℕ} → Refreshes a b B r E → among (refreshingAnswer (r .answer) .number) changeMay ≡ true
+  pub fresh-may : {r : Checked} {E : List ℕ} → Refreshes a b B r E → among (checkAnswer (r .answer) .number) changeMay ≡ true
   fresh-may p = may changeMay (p .1) fresh-answers
 
   -- Where it is done it is that of one drive.

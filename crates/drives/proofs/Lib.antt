@@ -1,5 +1,5 @@
 -- What upper crates cite is Laws. The rest is inner; Examples has checks worked by hand.
-mod Pairs
+mod PairChecks
 mod Single
 mod Alike
 mod Answering

@@ -1,5 +1,4 @@
--- One is two: a call for two drives that is given the same record in both places is the call of one drive, on every input.
--- Assumes nothing.
+-- One is two: a call for two drives that is given the same record in both places is the call of one drive, on every input. Assumes nothing.
 use mathlib.Core.Path.{_≡_, refl, _∙_}
 use mathlib.Core.Bool.{Bool, true, false, _||_, _&&_}
 use mathlib.Core.List.{List, [], _∷_}

@@ -6,10 +6,9 @@ use mathlib.Core.List.{List}
 use Prim.Native.Nat.{ℕ}
 use Rattle.calls.specs.declared.Drive.{Drive}
 use Rattle.calls.specs.declared.Served.{Served}
-use Rattle.calls.specs.declared.Rounded.{Rounded}
-use Rattle.calls.specs.declared.Refreshed.{Refreshed}
+use Rattle.calls.specs.declared.Checked.{Checked}
 use Rattle.calls.specs.declared.Reported.{Reported}
-use Rattle.calls.specs.Answers.{servingAnswer, roundingAnswer, refreshingAnswer, reportAnswer}
+use Rattle.calls.specs.Answers.{servingAnswer, checkAnswer, reportAnswer}
 use Rattle.sheets.specs.declared.Saved.{Saved}
 use Rattle.sheets.specs.Results.{savingAnswer}
 use Rattle.waiting.specs.declared.Order.{Order}
@@ -24,8 +23,8 @@ Orders a b B L o r E F =
 abbrev pub Serves : Drive → Drive → List ℕ → List ℕ → Served → List ℕ → List ℕ → Type 0
 Serves a b B L r E F = (r ≡ served a b B L) × (servingAnswer (r .answer) ≡ servedAnswer a b B L) × (E ≡ servedBoard a b B L) × (F ≡ servedList a b B L)
 
-abbrev pub Rounds : Drive → Drive → List ℕ → List ℕ → Rounded → List ℕ → Type 0
-Rounds a b B O r E = (r ≡ rounded a b B O) × (roundingAnswer (r .answer) ≡ roundedAnswer a b B O) × (E ≡ roundedOutput a b B O)
+abbrev pub Rounds : Drive → Drive → List ℕ → List ℕ → Checked → List ℕ → Type 0
+Rounds a b B O r E = (r ≡ rounded a b B O) × (checkAnswer (r .answer) ≡ roundedAnswer a b B O) × (E ≡ roundedOutput a b B O)
 
 abbrev pub Reports : Drive → Drive → List ℕ → ℕ → Reported → Type 0
 Reports a b B x r = (r ≡ reported a b B x) × (reportAnswer (r .answer) ≡ reportedAnswer a b B x)
@@ -36,5 +35,5 @@ Saves a b B O r E = (r ≡ saved a b B O) × (savingAnswer (r .answer) ≡ saved
 abbrev pub SavesPieces : Drive → Drive → List ℕ → List ℕ → Saved → List ℕ → Type 0
 SavesPieces a b B O r E = (r ≡ savedPieces a b B O) × (savingAnswer (r .answer) ≡ savedPiecesAnswer a b B O) × (E ≡ savedPiecesOutput a b B O)
 
-abbrev pub Refreshes : Drive → Drive → List ℕ → Refreshed → List ℕ → Type 0
-Refreshes a b B r E = (r ≡ refreshed a b B) × (refreshingAnswer (r .answer) ≡ refreshedAnswer a b B) × (E ≡ refreshedBoard a b B)
+abbrev pub Refreshes : Drive → Drive → List ℕ → Checked → List ℕ → Type 0
+Refreshes a b B r E = (r ≡ refreshed a b B) × (checkAnswer (r .answer) ≡ refreshedAnswer a b B) × (E ≡ refreshedBoard a b B)

@@ -4,16 +4,15 @@
 use mathlib.Core.List.{List, [], _∷_, _++_}
 use Prim.Native.Nat.{ℕ}
 use lib.ListN.{length, drop}
-use Rattle.pieces.specs.Board.{weight, number}
+use Rattle.pieces.specs.Board.{weight, pieceCount}
 use Rattle.pieces.specs.Fresh as layout
 use Rattle.calls.specs.declared.Drive.{Drive}
 use Rattle.calls.specs.declared.Check.{Check}
+use Rattle.calls.specs.declared.Checked.{Checked}
 use Rattle.calls.specs.declared.Served.{Served}
-use Rattle.calls.specs.declared.Rounded.{Rounded}
-use Rattle.calls.specs.declared.Refreshed.{Refreshed}
 use Rattle.calls.specs.declared.Reported.{Reported}
-use Rattle.calls.specs.Answers.{Answer, answered}
-use Rattle.calls.specs.Results.{ifClear, roundingBy, roundNames, refreshingBy, reportBy, reportedSpacing}
+use Rattle.calls.specs.Answers.{Answer, answered, checkAnswer}
+use Rattle.calls.specs.Results.{ifClear, roundNames, reportBy, reportedSpacing}
 use Rattle.sheets.specs.declared.Saved.{Saved}
 use Rattle.sheets.specs.Forms.{Form, sizeOf, savingBy}
 use Rattle.sheets.specs.Results.{leafForm, pieceForm}
@@ -59,11 +58,11 @@ servedList a b B L = ifClear (listCheck a b B (length L)) (listThen a b B L) L
 
 -- ---- round, report, save, the fresh layout: those of one drive, by the checks of both records
 
-abbrev pub rounded : Drive → Drive → List ℕ → List ℕ → Rounded
-rounded a b B O = record { drive = a; answer = roundingBy (pairRoundCheck a b B (length O)) }
+abbrev pub rounded : Drive → Drive → List ℕ → List ℕ → Checked
+rounded a b B O = record { drive = a; answer = pairRoundCheck a b B (length O) }
 
 abbrev pub roundedAnswer : Drive → Drive → List ℕ → List ℕ → Answer
-roundedAnswer a b B O = answered (pairRoundCheck a b B (length O)) []
+roundedAnswer a b B O = checkAnswer (pairRoundCheck a b B (length O))
 
 abbrev pub roundedOutput : Drive → Drive → List ℕ → List ℕ → List ℕ
 roundedOutput a b B O =
@@ -73,12 +72,12 @@ roundedOutput a b B O =
 abbrev pub reported : Drive → Drive → List ℕ → ℕ → Reported
 reported a b B x =
     let w = weight (a .capacity) B x in
-    let n = number (a .capacity) B x in
+    let n = pieceCount (a .capacity) B x in
     let s = reportedSpacing a B x in
     record { drive = a; answer = reportBy (pairReportCheck a b B x) w n s }
 
 abbrev pub reportedAnswer : Drive → Drive → List ℕ → ℕ → Answer
-reportedAnswer a b B x = answered (pairReportCheck a b B x) (weight (a .capacity) B x ∷ number (a .capacity) B x ∷ reportedSpacing a B x ∷ [])
+reportedAnswer a b B x = answered (pairReportCheck a b B x) (weight (a .capacity) B x ∷ pieceCount (a .capacity) B x ∷ reportedSpacing a B x ∷ [])
 
 -- save of a form of sheet, by what the check k finds
 abbrev pub savedBy : Form → Check → Drive → List ℕ → Saved
@@ -110,11 +109,11 @@ savedPiecesAnswer a b B O = savedAnswerBy pieceForm (pairPiecesCheck a b B (leng
 abbrev pub savedPiecesOutput : Drive → Drive → List ℕ → List ℕ → List ℕ
 savedPiecesOutput a b B O = savedOutputBy pieceForm (pairPiecesCheck a b B (length O)) a B O
 
-abbrev pub refreshed : Drive → Drive → List ℕ → Refreshed
-refreshed a b B = record { drive = a; answer = refreshingBy (pairFreshCheck a b B) }
+abbrev pub refreshed : Drive → Drive → List ℕ → Checked
+refreshed a b B = record { drive = a; answer = pairFreshCheck a b B }
 
 abbrev pub refreshedAnswer : Drive → Drive → List ℕ → Answer
-refreshedAnswer a b B = answered (pairFreshCheck a b B) []
+refreshedAnswer a b B = checkAnswer (pairFreshCheck a b B)
 
 abbrev pub refreshedBoard : Drive → Drive → List ℕ → List ℕ
 refreshedBoard a b B = let done = layout.fresh (a .capacity) B in ifClear (pairFreshCheck a b B) done B

@@ -1,19 +1,17 @@
-// The calls for two drives on one board with one waiting list: add, remove, slot, round, report, save of each form of sheet, the fresh layout. `own` is the record of the drive that the call is
-// for, and comes back; `other` is the other drive's, and is only looked at. Open, read and fetch are those of one drive: their record is for both.
+// The calls for two drives on one board with one waiting list: add, remove, slot, round, report, save of each form of sheet, the fresh layout. `own`
+// is the record of the drive that the call is for, and comes back; `other` is the other drive's, and is only looked at. Open, read and fetch are
+// those of one drive: their record is for both.
 ghost use mathlib.Core.Path.{_≡_};
 ghost use Prim.Native.Nat.{_≤_, _<_, max};
 ghost use Rattle.orders.specs.Results.{addOrder, removeOrder};
 ghost use Rattle.drives.specs.Checks as checks;
 ghost use Rattle.drives.specs.Promises as promises;
 use calls::Check;
+use calls::Checked;
 use calls::Drive;
-use calls::Refreshed;
-use calls::Refreshing;
 use calls::Refusal;
 use calls::Report;
 use calls::Reported;
-use calls::Rounded;
-use calls::Rounding;
 use calls::Served;
 use orders::Ordered;
 use sheets::Saved;
@@ -153,13 +151,13 @@ pub fn slot(own: Drive, other: Drive, board: &mut [u16], list: &mut [u64]) -> Se
 }
 
 // Writes the names of a full round.
-pub fn round(own: Drive, other: Drive, board: &[u16], output: &mut [u16]) -> Rounded
+pub fn round(own: Drive, other: Drive, board: &[u16], output: &mut [u16]) -> Checked
     ensures { λ r. ⌜ promises.Rounds own other (now (board .entry)) (now (output .entry)) r (now (output .exit)) ⌝ }
 {
     match check_pair(own, other, board, false) {
-        Check::Refused(r) => Rounded {
+        Check::Refused(r) => Checked {
             drive: own,
-            answer: Rounding::Refused(r),
+            answer: Check::Refused(r),
         },
         Check::Clear => own.round(board, output),
     }
@@ -237,13 +235,13 @@ pub fn save_pieces(own: Drive, other: Drive, board: &[u16], output: &mut [u8]) -
 }
 
 // Lays the board out afresh, at once: the orders that wait stay on the list, which is not looked at.
-pub fn fresh(own: Drive, other: Drive, board: &mut [u16]) -> Refreshed
+pub fn fresh(own: Drive, other: Drive, board: &mut [u16]) -> Checked
     ensures { λ r. ⌜ promises.Refreshes own other (now (board .entry)) r (now (board .exit)) ⌝ }
 {
     match check_start(own, other, board) {
-        Check::Refused(r) => Refreshed {
+        Check::Refused(r) => Checked {
             drive: own,
-            answer: Refreshing::Refused(r),
+            answer: Check::Refused(r),
         },
         Check::Clear => own.fresh(board),
     }

@@ -1,6 +1,5 @@
 -- The laws of slot on a lent record: no second result fits, a refusal leaves the record, the board and the list as they were, and with the own record in both
--- places it is the slot of one drive.
--- Assumes nothing.
+-- places it is the slot of one drive. Assumes nothing.
 use mathlib.Core.Path.{_≡_, refl, ap, _∙_}
 use mathlib.Core.List.{List}
 use Prim.Native.Nat.{ℕ}

@@ -4,7 +4,7 @@ use mathlib.Core.Path.{_≡_, sym, _∙_, ap}
 use mathlib.Core.List.{List, [], _∷_, _++_, append-assoc}
 use Prim.Native.Nat.{ℕ}
 use Rattle.calls.specs.declared.Drive.{Drive}
-use Rattle.shares.specs.States.{State}
+use Rattle.shares.specs.States.{BoardTables}
 use Rattle.batch.specs.declared.Entry.{Entry}
 use Rattle.batch.specs.declared.Carried.{Carried}
 use Rattle.share_batch.specs.Entries.{Left, batchOf}
@@ -16,17 +16,16 @@ abbrev pub joined : List Entry → Left → Left
 joined done l = record { drive = l .drive; state = l .state; list = l .list; table = done ++ l .table }
 
 -- one entry more is carried out
-pub goes-on : (all : Left) (d b : Drive) (s : State) (list : List ℕ) (done : List Entry) (e : Entry) (es : List Entry) (r : Carried) (t : State) (list′ : List ℕ)
+pub goes-on : (all : Left) (d b : Drive) (s : BoardTables) (list : List ℕ) (done : List Entry) (e : Entry) (es : List Entry) (r : Carried) (t : BoardTables) (list′ : List ℕ)
     → all ≡ joined done (batchOf d b s list (e ∷ es)) → Carries d b s list e r t list′ → all ≡ joined (done ++ r .entry ∷ []) (batchOf (r .drive) b t list′ es)
-goes-on all d b s list done e es r t list′ h f =
-    h ∙ ap (joined done) (batch-next d b s list e es f)
+goes-on all d b s list done e es r t list′ h f = h ∙ ap (joined done) (batch-next d b s list e es f)
     ∙ ap (λ (u : List Entry). record { drive = rest .drive; state = rest .state; list = rest .list; table = u }) (sym (append-assoc done (r .entry ∷ []) (rest .table)))
   where
     rest : Left
     rest = batchOf (r .drive) b t list′ es
 
 -- none is left
-pub all-done : (all : Left) (d b : Drive) (s : State) (list : List ℕ) (done : List Entry) → all ≡ joined done (batchOf d b s list [])
+pub all-done : (all : Left) (d b : Drive) (s : BoardTables) (list : List ℕ) (done : List Entry) → all ≡ joined done (batchOf d b s list [])
     → (d ≡ all .drive) × (s ≡ all .state) × (list ≡ all .list) × (done ++ [] ≡ all .table)
 all-done all d b s list done h =
     let e = sym (h ∙ ap (joined done) (batch-none d b s list)) in

@@ -1,5 +1,4 @@
--- What a turn of a loop over a table does to lists: done are the entries that are carried out, e the next one, es the rest.
--- Assumes nothing.
+-- What a turn of a loop over a table does to lists: done are the entries that are carried out, e the next one, es the rest. Assumes nothing.
 use mathlib.Core.Path.{_≡_, refl, sym, _∙_, ap}
 use mathlib.Core.List.{List, [], _∷_, _++_, append-assoc}
 use Prim.Native.Nat.{ℕ, _+_, _<_}
@@ -39,8 +38,7 @@ joined done l = record { drive = l .drive; board = l .board; list = l .list; tab
 -- one entry more is carried out
 pub goes-on : (all : Left) (d b : Drive) (board list : List ℕ) (done : List Entry) (e : Entry) (es : List Entry) (r : Carried) (board′ list′ : List ℕ)
     → all ≡ joined done (batchOf d b board list (e ∷ es)) → Carries d b board list e r board′ list′ → all ≡ joined (done ++ r .entry ∷ []) (batchOf (r .drive) b board′ list′ es)
-goes-on all d b board list done e es r board′ list′ h f =
-    h ∙ ap (joined done) (batch-next d b board list e es f)
+goes-on all d b board list done e es r board′ list′ h f = h ∙ ap (joined done) (batch-next d b board list e es f)
     ∙ ap (λ (t : List Entry). record { drive = rest .drive; board = rest .board; list = rest .list; table = t }) (sym (append-assoc done (r .entry ∷ []) (rest .table)))
   where
     rest : Left

@@ -5,14 +5,14 @@ use mathlib.Core.Path.{_≡_}
 use mathlib.Core.List.{List}
 use Prim.Native.Nat.{ℕ}
 use Rattle.calls.specs.declared.Drive.{Drive}
-use Rattle.shares.specs.States.{State}
+use Rattle.shares.specs.States.{BoardTables}
 use Rattle.shares.specs.Results.{served, servedAnswer, servedState, servedList}
 use Rattle.replies.specs.declared.Said.{Said}
 use Rattle.replies.specs.declared.Reply.{Reply}
 use Rattle.replies.specs.Replies.{saidOf, reply}
 
-abbrev pub ShareServes : Drive → Drive → State → List ℕ → Reply → State → List ℕ → Type 0
+abbrev pub ShareServes : Drive → Drive → BoardTables → List ℕ → Reply → BoardTables → List ℕ → Type 0
 ShareServes a b s L r t F = (r ≡ reply (served a b s L .drive) (servedAnswer a b s L)) × (t ≡ servedState a b s L) × (F ≡ servedList a b s L)
 
-abbrev pub ShareServesHere : Drive → Drive → State → List ℕ → Said → Drive → State → List ℕ → Type 0
+abbrev pub ShareServesHere : Drive → Drive → BoardTables → List ℕ → Said → Drive → BoardTables → List ℕ → Type 0
 ShareServesHere a b s L r d t F = (r ≡ saidOf (servedAnswer a b s L)) × (d ≡ served a b s L .drive) × (t ≡ servedState a b s L) × (F ≡ servedList a b s L)

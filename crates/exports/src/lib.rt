@@ -1,6 +1,6 @@
 // The functions that C and Rust link: every call on a slot board with its waiting list, and save and read; in `pair` those for two drives on one board, in
-// `sharing` and `walks` those with the tables of over-allocated streams, in `engine` the tree walk, in `listing` the sheets that list pieces, in `neighbour` a group
-// table. A slice is a pointer and then a length.
+// `sharing` those with the tables of over-allocated streams, in `by_hand` those of both that are lent structs, in `engine` the tree walk, in `listing` the sheets that
+// list pieces, in `neighbour` a group table. A slice is a pointer and then a length.
 ghost use mathlib.Core.Path.{_≡_};
 ghost use lib.ListN.{length};
 ghost use Rattle.calls.specs.Results as results;
@@ -13,19 +13,19 @@ use calls::Drive;
 use replies::Reply;
 use replies::Said;
 
-pub mod engine;
-pub mod listing;
-pub mod neighbour;
+pub mod by_hand;
+pub mod group_table;
 pub mod pair;
+pub mod piece_sheets;
 pub mod sharing;
-pub mod walks;
+pub mod tree_walk;
 
 // Opens a board, and empties the list.
 #[no_mangle]
 pub extern "C" fn mandrozsi_open(capacity: u16, board: &mut [u16], list: &mut [u64]) -> Reply
     ensures { λ r. ⌜ (r ≡ reply (order_results.opened capacity (now (board .entry)) (length (now (list .entry))) .drive) (order_results.openedAnswer capacity (now (board .entry)) (length (now (list .entry))))) × (now (board .exit) ≡ order_results.openedBoard capacity (now (board .entry)) (length (now (list .entry)))) × (now (list .exit) ≡ order_results.openedList capacity (now (board .entry)) (now (list .entry))) ⌝ }
 {
-    replies::of_opened(orders::open(capacity, board, list))
+    replies::of_checked(orders::open(capacity, board, list))
 }
 
 // Admits a stream, at once or by an order that waits: the idle leaves left, or the ticket.
@@ -69,7 +69,7 @@ pub extern "C" fn mandrozsi_slot(drive: Drive, board: &mut [u16], list: &mut [u6
 pub extern "C" fn mandrozsi_round(drive: Drive, board: &[u16], output: &mut [u16]) -> Reply
     ensures { λ r. ⌜ (r ≡ reply drive (results.roundedAnswer drive (now (board .entry)) (now (output .entry)))) × (now (output .exit) ≡ results.roundedOutput drive (now (board .entry)) (now (output .entry))) ⌝ }
 {
-    replies::of_rounded(drive.round(board, output))
+    replies::of_checked(drive.round(board, output))
 }
 
 // Reports on a stream: weight, number of pieces, spacing.
@@ -93,7 +93,7 @@ pub extern "C" fn mandrozsi_save(drive: Drive, board: &[u16], output: &mut [u8])
 pub extern "C" fn mandrozsi_read(sheet: &[u8], board: &mut [u16], list: &mut [u64]) -> Reply
     ensures { λ r. ⌜ (r ≡ reply (order_results.loaded (now (sheet .entry)) (now (board .entry)) (length (now (list .entry))) .drive) (order_results.loadedAnswer (now (sheet .entry)) (now (board .entry)) (length (now (list .entry))))) × (now (board .exit) ≡ order_results.loadedBoard (now (sheet .entry)) (now (board .entry)) (length (now (list .entry)))) × (now (list .exit) ≡ order_results.loadedList (now (sheet .entry)) (now (board .entry)) (now (list .entry))) ⌝ }
 {
-    replies::of_loaded(orders::read(sheet, board, list))
+    replies::of_checked(orders::read(sheet, board, list))
 }
 
 // Fetches the answer of an order by its ticket.
@@ -109,5 +109,5 @@ pub extern "C" fn mandrozsi_fetch(list: &mut [u64], ticket: u64) -> Said
 pub extern "C" fn mandrozsi_fresh(drive: Drive, board: &mut [u16]) -> Reply
     ensures { λ r. ⌜ (r ≡ reply drive (results.refreshedAnswer drive (now (board .entry)))) × (now (board .exit) ≡ results.refreshedBoard drive (now (board .entry))) ⌝ }
 {
-    replies::of_refreshed(drive.fresh(board))
+    replies::of_checked(drive.fresh(board))
 }

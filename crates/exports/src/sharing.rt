@@ -1,6 +1,5 @@
 // The functions that C and Rust link for over-allocated streams: the calls of two drives that are lent the tables of r and of each drive's deficits. A single
 // drive has its record in both places.
-ghost use mathlib.Core.Path.{_≡_};
 ghost use Rattle.orders.specs.Results.{addOrder, removeOrder};
 ghost use Rattle.shares.specs.States.{lent};
 ghost use Rattle.shares.specs.Results.{overOrder};
@@ -21,7 +20,7 @@ pub extern "C" fn mandrozsi_share_open(
 ) -> Reply
     ensures { λ r. ⌜ promises.ShareOpens capacity (lent (now (board .entry)) (now (rates .entry)) (now (owed .entry)) (now («owed_other» .entry))) (now (list .entry)) r (lent (now (board .exit)) (now (rates .exit)) (now (owed .exit)) (now («owed_other» .exit))) (now (list .exit)) ⌝ }
 {
-    replies::of_opened(share_boards::keeping::open(capacity, board, list, rates, owed, owed_other))
+    replies::of_checked(share_boards::opening::open(capacity, board, list, rates, owed, owed_other))
 }
 
 // Reads a sheet, clears the tables, and empties the list.
@@ -36,7 +35,7 @@ pub extern "C" fn mandrozsi_share_read(
 ) -> Reply
     ensures { λ r. ⌜ promises.ShareLoads (now (sheet .entry)) (lent (now (board .entry)) (now (rates .entry)) (now (owed .entry)) (now («owed_other» .entry))) (now (list .entry)) r (lent (now (board .exit)) (now (rates .exit)) (now (owed .exit)) (now («owed_other» .exit))) (now (list .exit)) ⌝ }
 {
-    replies::of_loaded(share_boards::keeping::read(sheet, board, list, rates, owed, owed_other))
+    replies::of_checked(share_boards::opening::read(sheet, board, list, rates, owed, owed_other))
 }
 
 // Admits a stream, at once or by an order that waits.
@@ -142,7 +141,7 @@ pub extern "C" fn mandrozsi_share_round(
 ) -> Reply
     ensures { λ r. ⌜ promises.ShareRounds own other (lent (now (board .entry)) (now (rates .entry)) (now (owed .entry)) (now («owed_other» .entry))) (now (output .entry)) r (now (output .exit)) ⌝ }
 {
-    replies::of_rounded(share_boards::looking::round(
+    replies::of_checked(share_boards::looking::round(
         own,
         other,
         board,
@@ -213,7 +212,7 @@ pub extern "C" fn mandrozsi_share_fresh(
 ) -> Reply
     ensures { λ r. ⌜ promises.ShareRefreshes own other (lent (now (board .entry)) (now (rates .entry)) (now (owed .entry)) (now («owed_other» .entry))) r (lent (now (board .exit)) (now (rates .exit)) (now (owed .exit)) (now («owed_other» .exit))) ⌝ }
 {
-    replies::of_refreshed(share_boards::starting::fresh(own, other, board, rates, owed, owed_other))
+    replies::of_checked(share_boards::starting::fresh(own, other, board, rates, owed, owed_other))
 }
 
 // Reads a sheet of pieces, at the position that it has, clears the tables, and empties the list.
@@ -228,7 +227,7 @@ pub extern "C" fn mandrozsi_share_read_pieces(
 ) -> Reply
     ensures { λ r. ⌜ promises.ShareLoadsPieces (now (sheet .entry)) (lent (now (board .entry)) (now (rates .entry)) (now (owed .entry)) (now («owed_other» .entry))) (now (list .entry)) r (lent (now (board .exit)) (now (rates .exit)) (now (owed .exit)) (now («owed_other» .exit))) (now (list .exit)) ⌝ }
 {
-    replies::of_loaded(share_boards::keeping::read_pieces(
+    replies::of_checked(share_boards::opening::read_pieces(
         sheet,
         board,
         list,

@@ -1,1 +1,1 @@
-// No function: laws of tests and equations that no crate above owns, in proofs/.
+// No function: definitions and laws of tests, equations and lists that no crate above owns.

@@ -9,24 +9,23 @@ use lib.Dec.{eqb, ltb}
 use lib.ListN.{length, drop}
 use borrow.Author.Tests.{eqb-false, ltb-false}
 use Rattle.general.proofs.Laws.{neither}
-use Rattle.pieces.specs.Fresh.{laid, idle, Placeables}
+use Rattle.pieces.specs.Fresh.{allPlaced, idle, Placeables}
 use Rattle.pieces.proofs.Laws.{idle-placeable}
 use Rattle.calls.specs.Refusals.{applies, openCheck, firstOf}
 use Rattle.calls.specs.declared.Refusal.the-variants.{Capacity, Short, Output}
 use Rattle.calls.specs.declared.Check.the-variants as check
-use Rattle.calls.specs.declared.Opened.{Opened}
+use Rattle.calls.specs.declared.Checked.{Checked}
 use Rattle.calls.specs.Results.{opened, openedBoard}
 use Rattle.calls.proofs.Laws.{idle-opened}
 use Rattle.waiting.specs.Layout.{tooShort, emptied}
 use Rattle.tree.specs.Marks.{levels}
 use Rattle.tree.proofs.Laws.{power, levels-few}
-use Rattle.groups.specs.Table.{count, offset, tableStreams, faulty, Table}
+use Rattle.groups.specs.Table.{streamCount, offset, tableStreams, faulty, Table}
 use Rattle.groups.specs.Results.{lentShort, sharesShort, finding, finds, findsShares, numberBy}
 use Rattle.groups.specs.Rounds.{roundOf}
-use Rattle.groups.specs.Promises.{ImportsBy, Vouches}
-use Rattle.groups.specs.declared.Importing.the-variants as importing
-use Rattle.groups.specs.declared.Finding.{Finding}
-use Rattle.groups.specs.declared.Finding.the-variants.{Clear, Power, Group, Refused}
+use Rattle.groups.specs.Promises.{ImportsBy, VouchesImport}
+use Rattle.groups.specs.declared.Importing.{Importing}
+use Rattle.groups.specs.declared.Importing.the-variants.{Clear, Power, Group, Refused}
 use Rattle.groups.proofs.Faults.{faultless}
 use Rattle.groups.proofs.Pointers.{place-below}
 use Rattle.groups.proofs.Adding.{streams-apart, streams-fit}
@@ -41,10 +40,10 @@ pub record Importable (C : ℕ) (S N B : List ℕ) (n m : ℕ) : Type 0 where
   pub size : C ≡ 2 ^ levels C
   pub small : levels C ≤ 11
   pub table : Table (levels C) S N
-  pub place : (i p : ℕ) → i < levels C → p < count (levels C) S i → offset (levels C) S i + p < length N
+  pub place : (i p : ℕ) → i < levels C → p < streamCount (levels C) S i → offset (levels C) S i + p < length N
 
 -- a refusal that is not found
-past : (f : Finding) → (numberBy f ≡ 0 → ⊥) → {b : Bool} {g : Finding} → cond b f g ≡ Clear → (b ≡ false) × (g ≡ Clear)
+past : (f : Importing) → (numberBy f ≡ 0 → ⊥) → {b : Bool} {g : Importing} → cond b f g ≡ Clear → (b ≡ false) × (g ≡ Clear)
 past f n {b = true} e = absurd (n (ap numberBy e))
 past f n {b = false} e = (refl, e)
 
@@ -67,7 +66,7 @@ passed C S N short m e =
     record { capacity = neither (eqb C 0) (ltb 4095 C) (a .0); power = b .0; long = c .0; group = d .0; output = f .0 }
 
 -- what the checks find, by what was found of the lengths
-pub found-is : (C : ℕ) (S N : List ℕ) (m : ℕ) (f : Finding) (short asked : Bool) → f ≡ finding C S N short m → short ≡ asked → f ≡ finding C S N asked m
+pub found-is : (C : ℕ) (S N : List ℕ) (m : ℕ) (f : Importing) (short asked : Bool) → f ≡ finding C S N short m → short ≡ asked → f ≡ finding C S N asked m
 found-is C S N m f short asked e q = e ∙ ap (λ (b : Bool). finding C S N b m) q
 
 -- with tables that are long enough too
@@ -123,9 +122,9 @@ module _ (C : ℕ) (S N B : List ℕ) (n m : ℕ) (is : Importable C S N B n m) 
   opened-placeable = rw opened-is import-placeable
 
 -- what the parts of an import that is made come to
-pub made : (f : Finding) (C : ℕ) (S N B L O : List ℕ) → f ≡ Clear → Vouches f C S N B L O → (x : Opened) (D E F G : List ℕ) → x ≡ opened C B → D ≡ openedBoard C B
-    → E ≡ laid C D (tableStreams (levels C) S N) → F ≡ emptied L → G ≡ roundOf (levels C) S N ++ drop (2 ^ levels C) O
-    → ImportsBy f C S N B L O (record { drive = x .drive; answer = importing.Done }) E F G
+pub made : (f : Importing) (C : ℕ) (S N B L O : List ℕ) → f ≡ Clear → VouchesImport f C S N B L O → (x : Checked) (D E F G : List ℕ) → x ≡ opened C B → D ≡ openedBoard C B
+    → E ≡ allPlaced C D (tableStreams (levels C) S N) → F ≡ emptied L → G ≡ roundOf (levels C) S N ++ drop (2 ^ levels C) O
+    → ImportsBy f C S N B L O (record { drive = x .drive; answer = Clear }) E F G
 made f C S N B L O e vouched x D E F G record-is board-is laid-is list-is output-is =
     let is = importable C S N B (length L) (length O) (vouched e) in (
       rw (e, record-is, is .opens) refl,

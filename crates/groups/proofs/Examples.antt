@@ -2,15 +2,15 @@
 use mathlib.Core.Path.{_≡_, refl}
 use mathlib.Core.List.{[], _∷_}
 use lib.Count.{trailingZeros, ones}
-use Rattle.sequences.specs.Board.{digits, term, column, leafAt, passedFrom, servedFrom, nextFrom}
+use Rattle.sequences.specs.SlotOrder.{digits, term, column, leafAt, passedFrom, servedFrom, nextFrom}
 use Rattle.sequences.specs.Sequences.{rb}
 use Rattle.sequences.specs.Serving.{leavesFrom}
 use Rattle.pieces.specs.Board.{uniform, whole, pieces, nth}
 use Rattle.pieces.specs.Placing.{fill, first, fit, spot, put, place}
-use Rattle.pieces.specs.Fresh.{laid}
+use Rattle.pieces.specs.Fresh.{allPlaced}
 use Rattle.calls.specs.Results.{idleBoard, slotNames, roundNames}
 use Rattle.tree.specs.Marks.{levels}
-use Rattle.groups.specs.Table.{count, offset, streamsAt, streamsFrom, tableStreams}
+use Rattle.groups.specs.Table.{streamCount, offset, streamsAt, streamsFrom, tableStreams}
 use Rattle.groups.specs.Rounds.{roundOf}
 use Rattle.groups.specs.Results.{madeBoard}
 
@@ -31,7 +31,7 @@ three = refl
 
 -- and as 1 3 2 0 by the board on which they are imported.
 three-board : madeBoard 4 (0 ∷ 0 ∷ 3 ∷ []) (1 ∷ 2 ∷ 3 ∷ []) (9 ∷ 9 ∷ 9 ∷ 9 ∷ 9 ∷ []) ≡ 1 ∷ 2 ∷ 3 ∷ 0 ∷ 9 ∷ []
-unfolding levels trailingZeros idleBoard count offset streamsAt streamsFrom tableStreams laid uniform whole pieces nth fill first fit spot put place
+unfolding levels trailingZeros idleBoard streamCount offset streamsAt streamsFrom tableStreams allPlaced uniform whole pieces nth fill first fit spot put place
 three-board = refl
 
 pub three-imported : roundNames 4 (madeBoard 4 (0 ∷ 0 ∷ 3 ∷ []) (1 ∷ 2 ∷ 3 ∷ []) (9 ∷ 9 ∷ 9 ∷ 9 ∷ 9 ∷ [])) ≡ 1 ∷ 3 ∷ 2 ∷ 0 ∷ []

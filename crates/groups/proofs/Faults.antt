@@ -1,5 +1,4 @@
--- What 18 looks for: a search from number to number, and that a table in which it finds nothing is just one without a fault.
--- Assumes nothing.
+-- What 18 looks for: a search from number to number, and that a table in which it finds nothing is just one without a fault. Assumes nothing.
 use mathlib.Core.Path.{_≡_, refl, sym, _∙_}
 use mathlib.Core.Bool.{Bool, true, false, not}
 use mathlib.Core.List.{List}
@@ -12,7 +11,7 @@ use lib.Dec.{eqb, ltb}
 use lib.ListN.{length, getD}
 use borrow.Author.Tests.{eq-eqb, ne-eqb, eqb-true, eqb-false, ltb-false, lt-ltb, le-ltb, not-false}
 use Rattle.general.proofs.Laws.{neither}
-use Rattle.groups.specs.Table.{rate, count, offset, badList, anyFrom, badName, faulty, Table, Rising}
+use Rattle.groups.specs.Table.{rate, streamCount, offset, badList, anyFrom, badName, faulty, Table, Rising}
 
 -- ---- a search among the numbers from i on
 
@@ -49,8 +48,8 @@ module _ (f : ℕ → Bool) where
 list-up : (k : ℕ) (S : List ℕ) (i : ℕ) → badList k S i ≡ false → getD S i 0 ≤ getD S (suc i) 0
 list-up k S i e = ltb-false (getD S (suc i) 0) (getD S i 0) (neither _ _ e .0)
 
-list-whole : (k : ℕ) (S : List ℕ) (i : ℕ) → badList k S i ≡ false → getD S (suc i) 0 ≡ getD S i 0 + count k S i * rate k i
-unfolding count
+list-whole : (k : ℕ) (S : List ℕ) (i : ℕ) → badList k S i ≡ false → getD S (suc i) 0 ≡ getD S i 0 + streamCount k S i * rate k i
+unfolding streamCount
 list-whole k S i e =
     let d = getD S (suc i) 0 - getD S i 0 in
     let z : d % rate k i ≡ 0 = eqb-true (d % rate k i) 0 (not-false (eqb (d % rate k i) 0) (neither (ltb (getD S (suc i) 0) (getD S i 0)) (not (eqb (d % rate k i) 0)) e .1)) in
@@ -170,8 +169,8 @@ unfolding faulty
 faultless-back k S N t =
     let lists : anyFrom (badList k S) 0 k ≡ false = none-any (badList k S) k 0 (λ i a h.
     let w = t .lists i (omega arith) in
-    let d : getD S (suc i) 0 - getD S i 0 ≡ count k S i * rate k i = omega arith in
-    rw (le-ltb (getD S (suc i) 0) (getD S i 0) (omega arith), d, mul-mod-left (count k S i) (rate k i)) refl) in
+    let d : getD S (suc i) 0 - getD S i 0 ≡ streamCount k S i * rate k i = omega arith in
+    rw (le-ltb (getD S (suc i) 0) (getD S i 0) (omega arith), d, mul-mod-left (streamCount k S i) (rate k i)) refl) in
     let names : anyFrom (badName N) 0 (length N) ≡ false = none-any (badName N) (length N) 0 (λ l a h.
     rw (
       ne-eqb (getD N l 0) 0 (t .named l (omega arith)),

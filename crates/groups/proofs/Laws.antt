@@ -9,7 +9,7 @@ use lib.Dec.{ltb}
 use lib.ListN.{length, getD}
 use Rattle.general.proofs.Laws.{unique, by-bool}
 use Rattle.pieces.specs.Board.{good, weight}
-use Rattle.pieces.specs.Fresh.{laid, idle}
+use Rattle.pieces.specs.Fresh.{allPlaced, idle}
 use Rattle.pieces.proofs.Laws.{idle-laid}
 use Rattle.calls.specs.Answers.{Answer}
 use Rattle.calls.specs.Records.{driveAt}
@@ -21,12 +21,12 @@ use Rattle.tables.specs.Settling.{clearedTable}
 use Rattle.tables.proofs.Laws.{cleared-fits}
 use Rattle.demands.proofs.Laws.{opens, reach, log, stateAt, addsOf, AllDone, opened-adds}
 use Rattle.tree.specs.Marks.{levels}
-use Rattle.groups.specs.Table.{rate, count, offset, tableStreams, faulty}
+use Rattle.groups.specs.Table.{rate, streamCount, offset, tableStreams, faulty}
 use Rattle.groups.specs.Results.{lentShort, sharesShort, finding, finds, findsShares, numberBy, ifMade, importMay, importingAnswer, importedAnswer, madeBoard}
 use Rattle.groups.specs.Promises.{ImportsBy, Imports, ImportsShares}
+use Rattle.groups.specs.declared.Importing.{Importing}
+use Rattle.groups.specs.declared.Importing.the-variants.{Clear, Power, Group, Refused}
 use Rattle.groups.specs.declared.Imported.{Imported}
-use Rattle.groups.specs.declared.Finding.{Finding}
-use Rattle.groups.specs.declared.Finding.the-variants.{Clear, Power, Group, Refused}
 use Rattle.groups.proofs.Adding.{stream-rate}
 use Rattle.groups.proofs.Checked.{Importable, importable, import-placeable, shares-plain}
 -- Tables worked by hand. They are computed before any law is proved, so that a wrong rule falls on them first.
@@ -40,14 +40,14 @@ pub use Rattle.groups.proofs.Faults.{faultless, faultless-back}
 -- ---- the call
 
 -- an import that is not made leaves what there was
-unmade : (f : Finding) → (numberBy f ≡ 0 → ⊥) → {A : Type 0} (made was : A) → ifMade f made was ≡ was
+unmade : (f : Importing) → (numberBy f ≡ 0 → ⊥) → {A : Type 0} (made was : A) → ifMade f made was ≡ was
 unmade Clear h made was = absurd (h refl)
 unmade Power h made was = refl
 unmade Group h made was = refl
 unmade (Refused r) h made was = refl
 
 -- By what the checks find: no second answer fits, and no other record, board, list or output; and where it is refused everything is as it was.
-module _ (f : Finding) (C : ℕ) (S N B L O : List ℕ) where
+module _ (f : Importing) (C : ℕ) (S N B L O : List ℕ) where
   by-unique : {r s : Imported} {E E′ F F′ G G′ : List ℕ} → ImportsBy f C S N B L O r E F G → ImportsBy f C S N B L O s E′ F′ G′
       → (r ≡ s) × (E ≡ E′) × (F ≡ F′) × (G ≡ G′)
   by-unique p q = (unique (p .0) (q .0), unique (p .2) (q .2), unique (p .3) (q .3), unique (p .4) (q .4))
@@ -61,8 +61,7 @@ module _ (f : Finding) (C : ℕ) (S N B L O : List ℕ) where
 -- The number is 0, or 1, 16, 2, 18 or 11, whatever the length of what is lent.
 finding-may : (C : ℕ) (S N : List ℕ) (short : Bool) (m : ℕ) → zeroOr (numberBy (finding C S N short m)) importMay ≡ true
 unfolding finding zeroOr
-finding-may C S N short m =
-    by-bool (applies Capacity (askedOpen C []))
+finding-may C S N short m = by-bool (applies Capacity (askedOpen C []))
     (λ t. rw t refl)
     (λ a. by-bool (ltb 1 (ones C))
     (λ t. rw (a, t) refl)
@@ -96,8 +95,8 @@ module _ (C : ℕ) (S N B L O : List ℕ) where
     is : Importable C S N B (length L) (length O)
     is = importable C S N B (length L) (length O) made
 
-    board-is : madeBoard C S N B ≡ laid C (idle C B) (tableStreams (levels C) S N)
-    board-is = ap (λ (D : List ℕ). laid C D (tableStreams (levels C) S N)) (sym (idle-opened C B (is .long)))
+    board-is : madeBoard C S N B ≡ allPlaced C (idle C B) (tableStreams (levels C) S N)
+    board-is = ap (λ (D : List ℕ). allPlaced C D (tableStreams (levels C) S N)) (sym (idle-opened C B (is .long)))
 
     -- Its record and board are those of an open and of an add for each stream of the table, in table order, and every one of them is done.
     pub import-adds :
@@ -112,7 +111,7 @@ module _ (C : ℕ) (S N B L O : List ℕ) where
     import-good = rw board-is (idle-laid C B (is .few) (is .long) (tableStreams (levels C) S N) (import-placeable C S N B (length L) (length O) is) .0)
 
     -- and stream p of list i, the one at place offset + p, has its rate as weight.
-    pub import-weight : (i p : ℕ) → i < levels C → p < count (levels C) S i
+    pub import-weight : (i p : ℕ) → i < levels C → p < streamCount (levels C) S i
         → weight C (madeBoard C S N B) (getD N (offset (levels C) S i + p) 0) ≡ rate (levels C) i
     import-weight i p h l =
         let k = levels C in

@@ -6,6 +6,6 @@ mod Faults
 mod Adding
 mod Checked
 mod Rounding
-mod Steps
+mod RoundSteps
 mod Examples
 pub mod Laws

@@ -1,6 +1,6 @@
 -- The lists of a group table: where their ranges start, which of them a value selects, and which name. Assumes nothing.
-use mathlib.Core.Path.{_≡_, refl, sym, ap, ap₂, _∙_}
-use mathlib.Core.Bool.{Bool, true, false, _&&_}
+use mathlib.Core.Path.{_≡_, sym, ap, ap₂, _∙_}
+use mathlib.Core.Bool.{Bool, _&&_, and-false}
 use mathlib.Core.List.{List}
 use Prim.Native.Nat.{ℕ, zero, suc, _+_, _-_, _*_, _/_, _^_, _≤_, _<_}
 use native.Mathlib.Nat.{mul-le-mul-right, le-of-mul-le-mul-right}
@@ -13,7 +13,7 @@ use borrow.Author.Tests.{eq-eqb, ne-eqb, lt-ltb, le-ltb, le-leb, lt-leb}
 use Rattle.sequences.specs.Sequences.{rb}
 use Rattle.sequences.specs.Serving.{countIn}
 use Rattle.sequences.proofs.Laws.{rb-lt, rb-split, count-same}
-use Rattle.groups.specs.Table.{rate, count, Table}
+use Rattle.groups.specs.Table.{rate, streamCount, Table}
 use Rattle.groups.specs.Rounds.{listOf}
 use Rattle.groups.proofs.Windows.{reversed-count, range-count}
 
@@ -57,8 +57,8 @@ module _ (k : ℕ) (S N : List ℕ) (table : Table k S N) where
       let e : k - suc j ≡ (i - j) + (k - suc i) = omega arith in
       let p : rate k j ≡ 2 ^ (i - j) * rate k i = ap (λ (x : ℕ). 2 ^ x) e ∙ pow-add 2 (i - j) (k - suc i) in
       let s = table .lists j (omega arith) in
-      let t : count k S j * rate k j ≡ count k S j * (2 ^ (i - j) * rate k i) = ap (λ (x : ℕ). count k S j * x) p in
-      (r .0 + count k S j * 2 ^ (i - j), omega (arith, r .1))
+      let t : streamCount k S j * rate k j ≡ streamCount k S j * (2 ^ (i - j) * rate k i) = ap (λ (x : ℕ). streamCount k S j * x) p in
+      (r .0 + streamCount k S j * 2 ^ (i - j), omega (arith, r .1))
 
   -- the list that a value selects
   pub selects : (v i : ℕ) → i < k → eqb (listOf S k 0 v) i ≡ (leb (getD S i 0) v && ltb v (getD S (suc i) 0))
@@ -70,13 +70,9 @@ module _ (k : ℕ) (S N : List ℕ) (table : Table k S N) where
         | yes l ↦ rw (ne-eqb j i (λ e. omega arith), lt-leb (getD S i 0) v (omega (arith, r .under (omega arith), starts-le (suc j) i l (omega arith))))
         | no l ↦ elim (ℕ-discrete j i) [
           | yes e ↦ rw (eq-eqb j i e, le-leb (getD S i 0) v (rw e at low), lt-ltb v (getD S (suc i) 0) (rw e at (r .under (omega arith))))
-          | no e ↦ rw (ne-eqb j i e, le-ltb v (getD S (suc i) 0) (omega (arith, starts-le (suc i) j (omega arith) (omega (arith, r .to))))) (sym (and-no (leb (getD S i 0) v)))
+          | no e ↦ rw (ne-eqb j i e, le-ltb v (getD S (suc i) 0) (omega (arith, starts-le (suc i) j (omega arith) (omega (arith, r .to))))) (sym (and-false (leb (getD S i 0) v)))
         ]
       ]
-    where
-      and-no : (b : Bool) → (b && false) ≡ false
-      and-no true = refl
-      and-no false = refl
 
   -- a value in units of the rate
   unit-leb : (a u r n : ℕ) → r < 2 ^ n → leb (a * 2 ^ n) (u * 2 ^ n + r) ≡ leb a u
@@ -92,13 +88,13 @@ module _ (k : ℕ) (S N : List ℕ) (table : Table k S N) where
   ]
 
   -- List i is met as often as it has streams, in each aligned window of 2 ^ (i + 1) slots.
-  pub met : (i q : ℕ) → i < k → countIn (λ t. eqb (listOf S k 0 (rb t k)) i) (q * 2 ^ suc i) (2 ^ suc i) ≡ count k S i
+  pub met : (i q : ℕ) → i < k → countIn (λ t. eqb (listOf S k 0 (rb t k)) i) (q * 2 ^ suc i) (2 ^ suc i) ≡ streamCount k S i
   met i q h =
       let n = k - suc i in
       let E = 2 ^ n in
       let r = multiple i i h (omega arith) in
       let a = r .0 in
-      let c = count k S i in
+      let c = streamCount k S i in
       let low : getD S i 0 ≡ a * 2 ^ n = r .1 in
       let high : getD S (suc i) 0 ≡ (a + c) * 2 ^ n = omega (arith, table .lists i h) in
       let kk : suc i + n ≡ k = omega arith in

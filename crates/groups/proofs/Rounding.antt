@@ -10,8 +10,8 @@ use lib.Pow.{pow-add}
 use lib.Seq.{take-at, drop-at}
 use Rattle.sequences.specs.Sequences.{rb}
 use Rattle.sequences.specs.Serving.{countList}
-use Rattle.groups.specs.Table.{rate, count, offset, Table}
-use Rattle.groups.specs.Rounds.{listOf, moved, namesFrom, pointersAfter, roundOf, slots, Pointing}
+use Rattle.groups.specs.Table.{rate, streamCount, offset, Table}
+use Rattle.groups.specs.Rounds.{listOf, pointersMoved, slotNamesFrom, pointersAfter, roundOf, slots, Pointing}
 use Rattle.groups.proofs.Windows.{passes}
 use Rattle.groups.proofs.Lists.{met}
 use Rattle.groups.proofs.Pointers.{names-hits, after-stop, after-pointing}
@@ -22,22 +22,21 @@ after-append k S zero n t P = rw (zero-add n, add-zero t)
 after-append k S (suc m) n t P =
     let e : suc m + n ≡ suc (m + n) = omega arith in
     let d : t + suc m ≡ suc t + m = omega arith in
-    rw (e, d) (after-append k S m n (suc t) (moved k S P (rb t k)))
+    rw (e, d) (after-append k S m n (suc t) (pointersMoved k S P (rb t k)))
 
 pub names-append : (k : ℕ) (S N : List ℕ) (m n t : ℕ) (P : List ℕ)
-    → namesFrom k S N P t (m + n) ≡ namesFrom k S N P t m ++ namesFrom k S N (pointersAfter k S P t m) (t + m) n
-unfolding namesFrom pointersAfter
+    → slotNamesFrom k S N P t (m + n) ≡ slotNamesFrom k S N P t m ++ slotNamesFrom k S N (pointersAfter k S P t m) (t + m) n
+unfolding slotNamesFrom pointersAfter
 names-append k S N zero n t P = rw (zero-add n, add-zero t)
 names-append k S N (suc m) n t P =
     let e : suc m + n ≡ suc (m + n) = omega arith in
     let d : t + suc m ≡ suc t + m = omega arith in
-    rw (e, d, names-append k S N m n (suc t) (moved k S P (rb t k)))
+    rw (e, d, names-append k S N m n (suc t) (pointersMoved k S P (rb t k)))
 
 -- m slots from t on, and n more.
 pub slots-append : (k : ℕ) (S N : List ℕ) (t m n : ℕ) → slots k S N t (m + n) ≡ slots k S N t m ++ slots k S N (t + m) n
 unfolding slots
-slots-append k S N t m n =
-    names-append k S N m n t (pointersAfter k S (replicate k 0) 0 t)
+slots-append k S N t m n = names-append k S N m n t (pointersAfter k S (replicate k 0) 0 t)
     ∙ (let e : 0 + t ≡ t = omega arith in
     let a : pointersAfter k S (replicate k 0) 0 (t + m) ≡ pointersAfter k S (pointersAfter k S (replicate k 0) 0 t) (0 + t) m = after-append k S t m 0 (replicate k 0) in
     let b : pointersAfter k S (replicate k 0) 0 (t + m) ≡ pointersAfter k S (pointersAfter k S (replicate k 0) 0 t) t m = rw e at a in
@@ -48,10 +47,10 @@ pub round-slots : (k : ℕ) (S N : List ℕ) → roundOf k S N ≡ slots k S N 0
 unfolding roundOf slots pointersAfter
 round-slots k S N = refl
 
-pub names-length : (k : ℕ) (S N : List ℕ) (n t : ℕ) (P : List ℕ) → length (namesFrom k S N P t n) ≡ n
-unfolding namesFrom
+pub names-length : (k : ℕ) (S N : List ℕ) (n t : ℕ) (P : List ℕ) → length (slotNamesFrom k S N P t n) ≡ n
+unfolding slotNamesFrom
 names-length k S N zero t P = refl
-names-length k S N (suc n) t P = ap suc (names-length k S N n (suc t) (moved k S P (rb t k)))
+names-length k S N (suc n) t P = ap suc (names-length k S N n (suc t) (pointersMoved k S P (rb t k)))
 
 pub slots-length : (k : ℕ) (S N : List ℕ) (t n : ℕ) → length (slots k S N t n) ≡ n
 unfolding slots
@@ -76,7 +75,7 @@ rate-power k n h = let e : k - suc (k - suc n) ≡ n = omega arith in ap (λ (x 
 pub heads : (k : ℕ) (S : List ℕ) → Pointing k S (replicate k 0)
 heads k S = record { size = length-replicate {A = ℕ} k 0; within = λ j h p. let z : _≡_ {A = ℕ} (getD (replicate k 0) j 0) 0 = getD-replicate {A = ℕ} k j 0 0 h in omega arith }
 
-module _ (k : ℕ) (S N : List ℕ) (table : Table k S N) (i p : ℕ) (h : i < k) (l : p < count k S i) where
+module _ (k : ℕ) (S N : List ℕ) (table : Table k S N) (i p : ℕ) (h : i < k) (l : p < streamCount k S i) where
   -- After every aligned window the pointer is back at the head of the list.
   pub pointer-back : (q : ℕ) → getD (pointersAfter k S (replicate k 0) 0 (q * 2 ^ suc i)) i 0 ≡ 0
   unfolding pointersAfter
@@ -88,7 +87,7 @@ module _ (k : ℕ) (S N : List ℕ) (table : Table k S N) (i p : ℕ) (h : i < k
       let g : Pointing k S P = after-pointing k S T 0 (replicate k 0) (heads k S) in
       let e : suc q * L ≡ T + L = omega arith in
       let z : 0 + T ≡ T = omega arith in
-      let w = passes (λ t. eqb (listOf S k 0 (rb t k)) i) (count k S i) p L 0 T (count k S i) (met k S N table i q h) (omega arith) in
+      let w = passes (λ t. eqb (listOf S k 0 (rb t k)) i) (streamCount k S i) p L 0 T (streamCount k S i) (met k S N table i q h) (omega arith) in
       rw (e, after-append k S T L 0 (replicate k 0), z, after-stop k S N table i p h l L T P g, pointer-back q) (w .round (omega arith) (omega arith))
 
   -- A stream of list i, whose rate is 2 ^ (k - i - 1), is served once in each aligned 2 ^ (i + 1) slots, of the round and of any rounds after it.
@@ -99,11 +98,11 @@ module _ (k : ℕ) (S N : List ℕ) (table : Table k S N) (i p : ℕ) (h : i < k
       let T = q * L in
       let P = pointersAfter k S (replicate k 0) 0 T in
       let g : Pointing k S P = after-pointing k S T 0 (replicate k 0) (heads k S) in
-      let w = passes (λ t. eqb (listOf S k 0 (rb t k)) i) (count k S i) p L 0 T (count k S i) (met k S N table i q h) (omega arith) in
+      let w = passes (λ t. eqb (listOf S k 0 (rb t k)) i) (streamCount k S i) p L 0 T (streamCount k S i) (met k S N table i q h) (omega arith) in
       names-hits k S N table i p h l L T P g ∙ rw (pointer-back q) (w .once (omega arith) (omega arith))
 
 -- In the round every stream of rate 2 ^ n is served once in each aligned 2 ^ (k - n) slots.
-pub round-served : (k : ℕ) (S N : List ℕ) → Table k S N → (n p q : ℕ) → n < k → p < count k S (k - suc n) → q < 2 ^ n
+pub round-served : (k : ℕ) (S N : List ℕ) → Table k S N → (n p q : ℕ) → n < k → p < streamCount k S (k - suc n) → q < 2 ^ n
     → countList (λ y. eqb y (getD N (offset k S (k - suc n) + p) 0)) (take (2 ^ (k - n)) (drop (q * 2 ^ (k - n)) (roundOf k S N))) ≡ 1
 round-served k S N table n p q h l b =
     let L = 2 ^ (k - n) in

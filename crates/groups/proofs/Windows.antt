@@ -1,7 +1,7 @@
 -- Counting in a window of slots: reversal of binary digits goes through every value once in each aligned window, and a pointer that moves at some of the
 -- slots goes round once where there are as many of these as streams. Assumes nothing.
 use mathlib.Core.Path.{_≡_, refl, sym, ap, ap₂, _∙_}
-use mathlib.Core.Bool.{Bool, true, false, _&&_, cond}
+use mathlib.Core.Bool.{Bool, true, false, _&&_, cond, and-false}
 use Prim.Native.Nat.{ℕ, zero, suc, _+_, _-_, _*_, _/_, _%_, _^_, _≤_, _<_}
 use native.Mathlib.Nat.{pow-suc}
 use native.Mathlib.Decide.{decLt, ℕ-discrete}
@@ -10,7 +10,7 @@ use lib.Dec.{eqb, leb, ltb}
 use borrow.Author.Tests.{eq-eqb, ne-eqb, lt-ltb, le-ltb, le-leb, lt-leb}
 use Rattle.general.specs.Tests.{one}
 use Rattle.general.proofs.Laws.{by-bool}
-use Rattle.groups.specs.Rounds.{next}
+use Rattle.groups.specs.Rounds.{nextPointer}
 use Rattle.sequences.specs.Sequences.{rb}
 use Rattle.sequences.specs.Serving.{countIn}
 use Rattle.sequences.proofs.Laws.{count-same, count-append}
@@ -65,10 +65,6 @@ unfolding countIn
 count-all f zero P h = refl
 count-all f (suc T) P h = rw (h P (omega arith) (omega arith)) (omega (arith, count-all f T (suc P) (λ t a b. h t (omega arith) (omega arith))))
 
-and-no : (b : Bool) → (b && false) ≡ false
-and-no true = refl
-and-no false = refl
-
 -- The values a to a + c - 1 are c of those below n.
 pub range-count : (a c n : ℕ) → a + c ≤ n → countIn (λ v. leb a v && ltb v (a + c)) 0 n ≡ c
 range-count a c n h =
@@ -78,7 +74,7 @@ range-count a c n h =
     let two = count-append f (0 + a) c (n - (a + c)) in
     let low = count-none f a 0 (λ t p q. rw (lt-leb a t (omega arith))) in
     let mid = count-all f c (0 + a) (λ t p q. rw (le-leb a t (omega arith), lt-ltb t (a + c) (omega arith))) in
-    let top = count-none f (n - (a + c)) (0 + a + c) (λ t p q. rw (le-ltb t (a + c) (omega arith)) (and-no (leb a t))) in
+    let top = count-none f (n - (a + c)) (0 + a + c) (λ t p q. rw (le-ltb t (a + c) (omega arith)) (and-false (leb a t))) in
     ap (countIn f 0) e ∙ (omega arith)
 
 -- ---- a pointer into c streams that moves at the slots of f
@@ -86,11 +82,11 @@ range-count a c n h =
 -- How often it stands at p when it is used, and where it stands after T slots from P on.
 unfoldable pub hits : (ℕ → Bool) → ℕ → ℕ → ℕ → ℕ → ℕ → ℕ
 hits f c p s P zero = 0
-hits f c p s P (suc T) = cond (f P) (one (eqb s p) + hits f c p (next c s) (suc P) T) (hits f c p s (suc P) T)
+hits f c p s P (suc T) = cond (f P) (one (eqb s p) + hits f c p (nextPointer c s) (suc P) T) (hits f c p s (suc P) T)
 
 unfoldable pub stop : (ℕ → Bool) → ℕ → ℕ → ℕ → ℕ → ℕ
 stop f c s P zero = s
-stop f c s P (suc T) = cond (f P) (stop f c (next c s) (suc P) T) (stop f c s (suc P) T)
+stop f c s P (suc T) = cond (f P) (stop f c (nextPointer c s) (suc P) T) (stop f c s (suc P) T)
 
 still : (f : ℕ → Bool) (c p s T P : ℕ) → countIn f P T ≡ 0 → (hits f c p s P T ≡ 0) × (stop f c s P T ≡ s)
 unfolding countIn hits stop

@@ -7,7 +7,7 @@ use Prim.Native.Nat.{ℕ, zero, suc, _+_, _^_, _<_}
 use lib.Dec.{ltb}
 use lib.ListN.{length, getD, set, replicate}
 use Rattle.sequences.specs.Sequences.{rb}
-use Rattle.groups.specs.Table.{count, offset}
+use Rattle.groups.specs.Table.{streamCount, offset}
 
 -- The list whose range, from its start to the next one, has v, looked for in the n lists from i on; i + n, the idle list, where none has.
 unfoldable pub listOf : List ℕ → ℕ → ℕ → ℕ → ℕ
@@ -15,8 +15,8 @@ listOf S zero i v = i
 listOf S (suc n) i v = let later = listOf S n (suc i) v in cond (ltb v (getD S (suc i) 0)) i later
 
 -- A pointer into a list of c streams, moved to the next one.
-abbrev pub next : ℕ → ℕ → ℕ
-next c p = cond (ltb (suc p) c) (suc p) 0
+abbrev pub nextPointer : ℕ → ℕ → ℕ
+nextPointer c p = cond (ltb (suc p) c) (suc p) 0
 
 -- The name that the value v selects by the pointers P: the one under its list's pointer; 0 for the idle list.
 unfoldable pub slotName : ℕ → List ℕ → List ℕ → List ℕ → ℕ → ℕ
@@ -26,33 +26,33 @@ slotName k S N P v =
     cond (ltb i k) (getD N (offset k S i + getD P i 0) 0) 0
 
 -- And that pointer moved on.
-unfoldable pub moved : ℕ → List ℕ → List ℕ → ℕ → List ℕ
-unfolding listOf count
-moved k S P v = let i = listOf S k 0 v in set P i (next (count k S i) (getD P i 0))
+unfoldable pub pointersMoved : ℕ → List ℕ → List ℕ → ℕ → List ℕ
+unfolding listOf streamCount
+pointersMoved k S P v = let i = listOf S k 0 v in set P i (nextPointer (streamCount k S i) (getD P i 0))
 
 -- The names of n slots from the counter's value t on: slot t selects the reversal of its k binary digits.
-unfoldable pub namesFrom : ℕ → List ℕ → List ℕ → List ℕ → ℕ → ℕ → List ℕ
-unfolding slotName moved rb
-namesFrom k S N P t zero = []
-namesFrom k S N P t (suc n) = slotName k S N P (rb t k) ∷ namesFrom k S N (moved k S P (rb t k)) (suc t) n
+unfoldable pub slotNamesFrom : ℕ → List ℕ → List ℕ → List ℕ → ℕ → ℕ → List ℕ
+unfolding slotName pointersMoved rb
+slotNamesFrom k S N P t zero = []
+slotNamesFrom k S N P t (suc n) = slotName k S N P (rb t k) ∷ slotNamesFrom k S N (pointersMoved k S P (rb t k)) (suc t) n
 
 -- The pointers after n slots from t on.
 unfoldable pub pointersAfter : ℕ → List ℕ → List ℕ → ℕ → ℕ → List ℕ
-unfolding moved rb
+unfolding pointersMoved rb
 pointersAfter k S P t zero = P
-pointersAfter k S P t (suc n) = pointersAfter k S (moved k S P (rb t k)) (suc t) n
+pointersAfter k S P t (suc n) = pointersAfter k S (pointersMoved k S P (rb t k)) (suc t) n
 
 -- The round: C slots, from every pointer at the head of its list.
 unfoldable pub roundOf : ℕ → List ℕ → List ℕ → List ℕ
-unfolding namesFrom
-roundOf k S N = namesFrom k S N (replicate k 0) 0 (2 ^ k)
+unfolding slotNamesFrom
+roundOf k S N = slotNamesFrom k S N (replicate k 0) 0 (2 ^ k)
 
 -- n slots from slot t on, of rounds one after the other.
 unfoldable pub slots : ℕ → List ℕ → List ℕ → ℕ → ℕ → List ℕ
-unfolding namesFrom pointersAfter
-slots k S N t n = namesFrom k S N (pointersAfter k S (replicate k 0) 0 t) t n
+unfolding slotNamesFrom pointersAfter
+slots k S N t n = slotNamesFrom k S N (pointersAfter k S (replicate k 0) 0 t) t n
 
 -- Each pointer stands at a stream of its list.
 pub record Pointing (k : ℕ) (S P : List ℕ) : Type 0 where
   pub size : length P ≡ k
-  pub within : (j : ℕ) → j < k → 0 < count k S j → getD P j 0 < count k S j
+  pub within : (j : ℕ) → j < k → 0 < streamCount k S j → getD P j 0 < streamCount k S j

@@ -7,7 +7,7 @@ use mathlib.Core.List.{List, [], _∷_, _++_}
 use Prim.Native.Nat.{ℕ, zero, suc, _+_, _-_, _*_, _/_, _%_, _^_, _≤_, _<_}
 use lib.Dec.{eqb, ltb}
 use lib.ListN.{length, getD}
-use Rattle.pieces.specs.Fresh.{Stream}
+use Rattle.pieces.specs.Streams.{Stream}
 
 -- ---- lists and streams
 
@@ -16,14 +16,14 @@ abbrev pub rate : ℕ → ℕ → ℕ
 rate k i = 2 ^ (k - suc i)
 
 -- How many streams it holds: start i + 1 less start i, over its rate.
-unfoldable pub count : ℕ → List ℕ → ℕ → ℕ
-count k S i = (getD S (suc i) 0 - getD S i 0) / rate k i
+unfoldable pub streamCount : ℕ → List ℕ → ℕ → ℕ
+streamCount k S i = (getD S (suc i) 0 - getD S i 0) / rate k i
 
 -- At which place its names begin: after those of the lists before it.
 unfoldable pub offset : ℕ → List ℕ → ℕ → ℕ
-unfolding count
+unfolding streamCount
 offset k S zero = 0
-offset k S (suc i) = offset k S i + count k S i
+offset k S (suc i) = offset k S i + streamCount k S i
 
 -- The streams of n names from place a on, each with the weight w.
 unfoldable pub streamsAt : List ℕ → ℕ → ℕ → ℕ → List Stream
@@ -33,7 +33,7 @@ streamsAt N w a (suc n) = record { name = getD N a 0; weight = w } ∷ streamsAt
 -- The streams of n lists from list i on, in table order, each with its rate as weight.
 unfoldable pub streamsFrom : ℕ → List ℕ → List ℕ → ℕ → ℕ → List Stream
 streamsFrom k S N i zero = []
-streamsFrom k S N i (suc n) = streamsAt N (rate k i) (offset k S i) (count k S i) ++ streamsFrom k S N (suc i) n
+streamsFrom k S N i (suc n) = streamsAt N (rate k i) (offset k S i) (streamCount k S i) ++ streamsFrom k S N (suc i) n
 
 -- The streams of the table.
 unfoldable pub tableStreams : ℕ → List ℕ → List ℕ → List Stream
@@ -65,7 +65,7 @@ faulty k S N =
 pub record Table (k : ℕ) (S N : List ℕ) : Type 0 where
   pub starts : length S ≡ suc k
   pub first : getD S 0 0 ≡ 0
-  pub lists : (i : ℕ) → i < k → getD S (suc i) 0 ≡ getD S i 0 + count k S i * rate k i
+  pub lists : (i : ℕ) → i < k → getD S (suc i) 0 ≡ getD S i 0 + streamCount k S i * rate k i
   pub fits : getD S k 0 ≤ 2 ^ k
   pub names : length N ≡ offset k S k
   pub named : (j : ℕ) → j < length N → getD N j 0 ≡ 0 → ⊥

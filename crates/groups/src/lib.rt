@@ -7,7 +7,7 @@ ghost use lib.Dec.{eqb, ltb};
 ghost use lib.ListN.{length, getD, replicate, drop};
 ghost use Rattle.sequences.specs.Sequences.{rb};
 ghost use Rattle.pieces.specs.Fresh as fresh;
-ghost use Rattle.groups.specs.declared.Finding.the-variants.{Clear};
+ghost use Rattle.groups.specs.declared.Importing.the-variants.{Clear};
 ghost use Rattle.groups.specs.Table as table;
 ghost use Rattle.groups.specs.Rounds as rounds;
 ghost use Rattle.groups.specs.Results as results;
@@ -15,9 +15,9 @@ ghost use Rattle.groups.specs.Promises as promises;
 use calls::Drive;
 use calls::Refusal;
 
-// The answer of an import: done; the capacity is no power of two; the table has a fault; a refusal.
+// What the checks of an import find, and its answer, which has no value: the capacity is no power of two; the table has a fault; a refusal.
 pub enum Importing {
-    Done,
+    Clear,
     Power,
     Group,
     Refused(Refusal),
@@ -26,14 +26,6 @@ pub enum Importing {
 pub struct Imported {
     pub drive: Drive,
     pub answer: Importing,
-}
-
-// What the checks of an import find.
-pub enum Finding {
-    Clear,
-    Power,
-    Group,
-    Refused(Refusal),
 }
 
 // ---- lists
@@ -49,7 +41,7 @@ fn rate_of(k: usize, i: usize) -> usize
 // How many streams list i holds.
 fn streams_of(starts: &[u16], k: usize, i: usize) -> usize
     requires { ⌜ (k ≤ 11) × (i < k) × table.Rising k (now starts) ⌝ }
-    ensures { λ r. ⌜ (r ≡ table.count k (now (starts .entry)) i) × (r < 65536) ⌝ }
+    ensures { λ r. ⌜ (r ≡ table.streamCount k (now (starts .entry)) i) × (r < 65536) ⌝ }
 {
     (starts[i + 1] as usize - starts[i] as usize) / rate_of(k, i)
 }
@@ -200,28 +192,28 @@ fn either(a: bool, b: bool) -> bool
 }
 
 // The refusals 1, 16, 2, 18 and 11, in this order.
-fn check(c: usize, starts: &[u16], names: &[u16], short: bool, output: usize) -> Finding
+fn check(c: usize, starts: &[u16], names: &[u16], short: bool, output: usize) -> Importing
     ensures { λ r. ⌜ r ≡ results.finding c (now (starts .entry)) (now (names .entry)) short output ⌝ }
 {
     if c == 0 {
-        return Finding::Refused(Refusal::Capacity);
+        return Importing::Refused(Refusal::Capacity);
     }
     if Drive::LARGEST < c {
-        return Finding::Refused(Refusal::Capacity);
+        return Importing::Refused(Refusal::Capacity);
     }
     if 1 < usize::count_ones(c) {
-        return Finding::Power;
+        return Importing::Power;
     }
     if short {
-        return Finding::Refused(Refusal::Short);
+        return Importing::Refused(Refusal::Short);
     }
     if faulty(starts, names, usize::trailing_zeros(c) as usize) {
-        return Finding::Group;
+        return Importing::Group;
     }
     if output < c {
-        return Finding::Refused(Refusal::Output);
+        return Importing::Refused(Refusal::Output);
     }
-    Finding::Clear
+    Importing::Clear
 }
 
 // ---- the table's round
@@ -260,7 +252,7 @@ fn find(starts: &[u16], k: usize, v: usize) -> usize
 // The pointer after p in a list of c streams.
 fn next(c: usize, p: usize) -> usize
     requires { ⌜ p < 65536 ⌝ }
-    ensures { λ r. ⌜ r ≡ rounds.next c p ⌝ }
+    ensures { λ r. ⌜ r ≡ rounds.nextPointer c p ⌝ }
 {
     if p + 1 < c { p + 1 } else { 0 }
 }
@@ -268,7 +260,7 @@ fn next(c: usize, p: usize) -> usize
 // One slot that selects v: the name under the pointer of its list, which moves on.
 fn serve(starts: &[u16], names: &[u16], k: usize, pointers: &mut [u16], v: usize) -> u16
     requires { ⌜ (k ≤ 11) × table.Table k (now starts) (now names) × rounds.Pointing k (now starts) (now pointers) ⌝ }
-    ensures { λ r. ⌜ (r ≡ rounds.slotName k (now (starts .entry)) (now (names .entry)) (now (pointers .entry)) v) × (now (pointers .exit) ≡ rounds.moved k (now (starts .entry)) (now (pointers .entry)) v) ⌝ }
+    ensures { λ r. ⌜ (r ≡ rounds.slotName k (now (starts .entry)) (now (names .entry)) (now (pointers .entry)) v) × (now (pointers .exit) ≡ rounds.pointersMoved k (now (starts .entry)) (now (pointers .entry)) v) ⌝ }
 {
     let i = find(starts, k, v);
     if i < k {
@@ -314,7 +306,7 @@ fn write_round(starts: &[u16], names: &[u16], k: usize, output: &mut [u16])
 // Admits n streams of the weight w, by their names from a place on.
 fn admit_list(board: &mut [u16], c: usize, names: &[u16], from: usize, n: usize, w: usize)
     requires { ⌜ (from + n ≤ length (now names)) × (from + n ≤ 4096) × fresh.Placeables c (now board) (table.streamsAt (now names) w from n) ⌝ }
-    ensures { λ _. ⌜ now (board .exit) ≡ fresh.laid c (now (board .entry)) (table.streamsAt (now (names .entry)) w from n) ⌝ }
+    ensures { λ _. ⌜ now (board .exit) ≡ fresh.allPlaced c (now (board .entry)) (table.streamsAt (now (names .entry)) w from n) ⌝ }
 {
     let mut j: usize = 0;
     while j < n {
@@ -326,7 +318,7 @@ fn admit_list(board: &mut [u16], c: usize, names: &[u16], from: usize, n: usize,
 // Admits the streams of a table without a fault, in table order. There is room for each of them.
 fn admit_all(board: &mut [u16], c: usize, starts: &[u16], names: &[u16], k: usize)
     requires { ⌜ (k ≤ 11) × table.Table k (now starts) (now names) × fresh.Placeables c (now board) (table.tableStreams k (now starts) (now names)) ⌝ }
-    ensures { λ _. ⌜ now (board .exit) ≡ fresh.laid c (now (board .entry)) (table.tableStreams k (now (starts .entry)) (now (names .entry))) ⌝ }
+    ensures { λ _. ⌜ now (board .exit) ≡ fresh.allPlaced c (now (board .entry)) (table.tableStreams k (now (starts .entry)) (now (names .entry))) ⌝ }
 {
     let mut from: usize = 0;
     let mut i: usize = 0;
@@ -340,7 +332,7 @@ fn admit_all(board: &mut [u16], c: usize, starts: &[u16], names: &[u16], k: usiz
 
 // Imports a table by what the checks found: writes its round to the output, empties the list, opens the board, and admits the table's streams.
 fn import_by(
-    found: Finding,
+    found: Importing,
     capacity: u16,
     starts: &[u16],
     names: &[u16],
@@ -348,23 +340,23 @@ fn import_by(
     list: &mut [u64],
     output: &mut [u16],
 ) -> Imported
-    requires { ⌜ promises.Vouches found capacity (now starts) (now names) (now board) (now list) (now output) ⌝ }
+    requires { ⌜ promises.VouchesImport found capacity (now starts) (now names) (now board) (now list) (now output) ⌝ }
     ensures { λ r. ⌜ promises.ImportsBy found capacity (now (starts .entry)) (now (names .entry)) (now (board .entry)) (now (list .entry)) (now (output .entry)) r (now (board .exit)) (now (list .exit)) (now (output .exit)) ⌝ }
 {
     match found {
-        Finding::Refused(r) => Imported {
+        Importing::Refused(r) => Imported {
             drive: Drive::new(0, 0),
             answer: Importing::Refused(r),
         },
-        Finding::Power => Imported {
+        Importing::Power => Imported {
             drive: Drive::new(0, 0),
             answer: Importing::Power,
         },
-        Finding::Group => Imported {
+        Importing::Group => Imported {
             drive: Drive::new(0, 0),
             answer: Importing::Group,
         },
-        Finding::Clear => {
+        Importing::Clear => {
             let c = capacity as usize;
             let k = usize::trailing_zeros(c) as usize;
             write_round(starts, names, k, output);
@@ -374,7 +366,7 @@ fn import_by(
             let drive = opened.drive;
             Imported {
                 drive,
-                answer: Importing::Done,
+                answer: Importing::Clear,
             }
         }
     }
@@ -398,15 +390,15 @@ pub fn import(
 }
 
 // Clears a table of over-allocated streams where the checks found nothing.
-fn clear_by(found: Finding, table: &mut [u16], c: usize)
+fn clear_by(found: Importing, table: &mut [u16], c: usize)
     requires { ⌜ (found ≡ Clear → (c ≤ length (now table)) × (c ≤ 4095)) ⌝ }
     ensures { λ _. ⌜ now (table .exit) ≡ results.tableBy found c (now (table .entry)) ⌝ }
 {
     match found {
-        Finding::Refused(r) => {}
-        Finding::Power => {}
-        Finding::Group => {}
-        Finding::Clear => {
+        Importing::Refused(r) => {}
+        Importing::Power => {}
+        Importing::Group => {}
+        Importing::Clear => {
             tables::clear_table(table, c);
         }
     }

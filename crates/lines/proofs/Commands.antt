@@ -8,9 +8,10 @@ use native.Mathlib.Numerals.{add-one}
 use lib.Dec.{eqb}
 use lib.ListN.{length, take, drop, length-drop}
 use lib.Seq.{take-all}
-use Rattle.lines.specs.Grammar.{placeOf, parted, words, same, shortNumber, ticket, fetchWord, alone, withOne, withTicket, withTwo, command, parsed}
+use Rattle.general.specs.Tests.{same}
+use Rattle.lines.specs.Grammar.{firstPlace, parted, words, shortNumber, ticket, fetchWord, loneWord, withOne, withTicket, withTwo, command, parsed}
 use Rattle.lines.specs.declared.Command.the-variants.{Unknown}
-use Rattle.lines.proofs.Cuts.{words-one, words-more}
+use Rattle.lines.proofs.Words.{words-one, words-more}
 
 four : (w x y : List ℕ) (t : Bool) (b : ℕ) (ws : List (List ℕ)) → command (w ∷ x ∷ y ∷ parted t b ws) ≡ Unknown
 unfolding command
@@ -24,15 +25,15 @@ unfolding words command
 command-four w x y [] = refl
 command-four w x y (b ∷ s) = four w x y (eqb b 32) b (words s)
 
-pub command-many : (w x s : List ℕ) → placeOf 32 s < length s → command (w ∷ x ∷ words s) ≡ Unknown
-command-many w x s h = rw (words-more s h) (command-four w x (take (placeOf 32 s) s) (drop (suc (placeOf 32 s)) s))
+pub command-many : (w x s : List ℕ) → firstPlace 32 s < length s → command (w ∷ x ∷ words s) ≡ Unknown
+command-many w x s h = rw (words-more s h) (command-four w x (take (firstPlace 32 s) s) (drop (suc (firstPlace 32 s)) s))
 
-pub command-three : (w x s : List ℕ) → length s ≤ placeOf 32 s → command (w ∷ x ∷ words s) ≡ withTwo w (shortNumber x) (shortNumber s)
+pub command-three : (w x s : List ℕ) → length s ≤ firstPlace 32 s → command (w ∷ x ∷ words s) ≡ withTwo w (shortNumber x) (shortNumber s)
 unfolding command
 command-three w x s h = rw (words-one s h) refl
 
 -- a line of two words is a fetch, or not
-module _ (w s : List ℕ) (h : length s ≤ placeOf 32 s) where
+module _ (w s : List ℕ) (h : length s ≤ firstPlace 32 s) where
   pub command-fetch : same w fetchWord ≡ true → command (w ∷ words s) ≡ withTicket (ticket s)
   unfolding command
   command-fetch e = rw (words-one s h, e) refl
@@ -42,10 +43,10 @@ module _ (w s : List ℕ) (h : length s ≤ placeOf 32 s) where
   command-two e = rw (words-one s h, e) refl
 
 -- what stands before the first space of a line, and what stands after it as the code lends it
-module _ (s : List ℕ) (e : ℕ) (at : e ≡ placeOf 32 s) (h : e < length s) where
+module _ (s : List ℕ) (e : ℕ) (at : e ≡ firstPlace 32 s) (h : e < length s) where
   words-cut : words s ≡ take e s ∷ words (take (length s - (e + 1)) (drop (e + 1) s))
   words-cut =
-      let k : placeOf 32 s < length s = omega arith in
+      let k : firstPlace 32 s < length s = omega arith in
       rw (take-all (length s - (e + 1)) (drop (e + 1) s) (rw length-drop (omega arith)), add-one, at) (words-more s k)
 
   pub command-more : (w : List ℕ) → command (w ∷ take e s ∷ words (take (length s - (e + 1)) (drop (e + 1) s))) ≡ command (w ∷ words s)
@@ -55,6 +56,6 @@ module _ (s : List ℕ) (e : ℕ) (at : e ≡ placeOf 32 s) (h : e < length s) w
   unfolding parsed
   parsed-more = rw words-cut refl
 
-pub parsed-one : (s : List ℕ) → length s ≤ placeOf 32 s → parsed s ≡ alone s
+pub parsed-one : (s : List ℕ) → length s ≤ firstPlace 32 s → parsed s ≡ loneWord s
 unfolding parsed command
 parsed-one s h = rw (words-one s h) refl

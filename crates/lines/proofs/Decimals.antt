@@ -9,7 +9,7 @@ use lib.Dec.{ltb}
 use lib.ListN.{length, getD, take, set, length-append}
 use lib.Seq.{sets, take-suc}
 use borrow.Author.Tests.{lt-ltb, le-ltb}
-use Rattle.general.proofs.Laws.{by-bool}
+use Rattle.general.proofs.Laws.{by-bool, sets-append}
 use Rattle.lines.specs.Printing.{decimalIn, decimal, field, fields, line}
 
 -- more steps than n change nothing
@@ -18,8 +18,7 @@ unfolding decimalIn
 fuel zero zero n h k = refl
 fuel zero (suc g) n h k = rw (lt-ltb n 10 (omega arith)) refl
 fuel (suc f) zero n h k = rw (lt-ltb n 10 (omega arith)) refl
-fuel (suc f) (suc g) n h k =
-    by-bool (ltb n 10) (λ t. rw t refl) (λ e. rw (fuel f g (n / 10) (omega arith) (omega arith)) refl)
+fuel (suc f) (suc g) n h k = by-bool (ltb n 10) (λ t. rw t refl) (λ e. rw (fuel f g (n / 10) (omega arith) (omega arith)) refl)
 
 pub decimal-one : (n : ℕ) → n < 10 → decimal n ≡ (48 + n) ∷ []
 unfolding decimal decimalIn
@@ -29,8 +28,7 @@ decimal-one (suc n) h = rw (lt-ltb (suc n) 10 h) refl
 pub decimal-more : (n : ℕ) → 10 ≤ n → decimal n ≡ decimal (n / 10) ++ ((48 + n % 10) ∷ [])
 unfolding decimal decimalIn
 decimal-more zero h = absurd (omega arith)
-decimal-more (suc n) h =
-    rw (le-ltb (suc n) 10 h, fuel n (suc n / 10) (suc n / 10) (omega arith) (omega arith)) refl
+decimal-more (suc n) h = rw (le-ltb (suc n) 10 h, fuel n (suc n / 10) (suc n / 10) (omega arith) (omega arith)) refl
 
 -- a number below 10^(k+1) has at most k + 1 digits
 pub decimal-length : (k n : ℕ) → n < 10 ^ suc k → length (decimal n) ≤ suc k
@@ -47,11 +45,6 @@ decimal-length (suc k) n h =
 pub sets-snoc : (l : List ℕ) (i : ℕ) (vs : List ℕ) (a : ℕ) → set (sets l i vs) (i + length vs) a ≡ sets l i (vs ++ (a ∷ []))
 sets-snoc l i [] a = rw add-zero refl
 sets-snoc l i (v ∷ vs) a = rw (add-suc, ← suc-add) (sets-snoc (set l i v) (suc i) vs a)
-
--- a stretch more at the end of what is stored
-pub sets-append : (l : List ℕ) (i : ℕ) (vs ws : List ℕ) → sets (sets l i vs) (i + length vs) ws ≡ sets l i (vs ++ ws)
-sets-append l i [] ws = rw add-zero refl
-sets-append l i (v ∷ vs) ws = rw (add-suc, ← suc-add) (sets-append (set l i v) (suc i) vs ws)
 
 -- ---- values and lines
 

@@ -3,7 +3,8 @@ use mathlib.Core.Path.{_≡_, refl}
 use mathlib.Core.List.{List, [], _∷_, _++_}
 use Prim.Native.Nat.{ℕ}
 use lib.ListN.{length}
-use Rattle.lines.specs.Grammar.{words, same, digit, allDigits, spelled, numeral, fetchWord, longest, alone, withOne, withTwo, command, parsed}
+use Rattle.general.specs.Tests.{same}
+use Rattle.lines.specs.Grammar.{words, isDigit, allDigits, spelledNumber, numeral, fetchWord, longest, loneWord, withOne, withTwo, command, parsed}
 use Rattle.lines.specs.Printing.{decimalIn, decimal, field, fields, line}
 use Rattle.lines.specs.declared.Command.the-variants.{Open, Add, Slot, Fetch, Unknown}
 
@@ -19,7 +20,7 @@ reads :
     × (parsed (111 ∷ 112 ∷ 101 ∷ 110 ∷ 32 ∷ 54 ∷ 53 ∷ 53 ∷ 51 ∷ 53 ∷ []) ≡ Open 65535)
     × (parsed (111 ∷ 112 ∷ 101 ∷ 110 ∷ 32 ∷ 54 ∷ 53 ∷ 53 ∷ 51 ∷ 54 ∷ []) ≡ Unknown)
     × (parsed (97 ∷ 100 ∷ 100 ∷ 32 ∷ 55 ∷ 32 ∷ 53 ∷ []) ≡ Add 7 5)
-unfolding parsed command words alone withOne withTwo same numeral allDigits digit spelled
+unfolding parsed command words loneWord withOne withTwo same numeral allDigits isDigit spelledNumber
 reads = (refl, refl, refl, refl, refl, refl, refl, refl, refl, refl)
 
 -- `18446744073709551615`, the last ticket, and `18446744073709551616`; `fetch` and a word
@@ -40,7 +41,7 @@ fetches :
     × (parsed (fetchOf (48 ∷ last)) ≡ Unknown)
     × (parsed (fetchOf []) ≡ Unknown)
     × (parsed (fetchOf (48 ∷ [])) ≡ Fetch 0)
-unfolding parsed command words withOne same numeral allDigits digit spelled
+unfolding parsed command words withOne same numeral allDigits isDigit spelledNumber
 fetches = (refl, refl, refl, refl, refl, refl)
 
 -- `0 7 0`, `4`, `10 3`, `0 4095`, `13 18446744073709551615`, each with its line feed

@@ -48,7 +48,6 @@ remove-alike d B x = by-other (removeCheck d B x) (removedIdle d B x) (first-wit
 -- what an order leaves to be fetched is printed as its change, made at once on the same board, would have been
 pub fetched-printed : (d : Drive) (B : List ℕ) (o : Order) → outcomeLine (saying d o B .number) (saying d o B .value) ≡ orderingLine (made (carried d B o))
 unfolding carried
-fetched-printed d B o =
-    by-bool (eqb (o .kind) 1)
+fetched-printed d B o = by-bool (eqb (o .kind) 1)
     (λ t. rw t (add-alike d B (o .name) (o .weight)))
     (λ f. by-bool (eqb (o .kind) 2) (λ t. rw (f, t) (remove-alike d B (o .name))) (λ g. rw (f, g) refl))

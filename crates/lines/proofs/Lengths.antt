@@ -8,13 +8,13 @@ use native.Mathlib.Decide.{decLt}
 use lib.Dec.{eqb}
 use lib.ListN.{length, take}
 use lib.Seq.{take-all, length-take-le}
-use Rattle.general.proofs.Laws.{by-bool}
-use Rattle.lines.specs.Grammar.{parted, words, same, mostDigits, shortNumber, ticketDigits, openWord, addWord, removeWord, slotWord, roundWord, fetchWord, longest, alone, withOne, withTwo, command, parsed}
+use Rattle.general.specs.Tests.{same}
+use Rattle.general.proofs.Laws.{by-bool, same-short}
+use Rattle.lines.specs.Grammar.{parted, words, mostDigits, shortNumber, ticketDigits, openWord, addWord, removeWord, slotWord, roundWord, fetchWord, longest, loneWord, withOne, withTwo, command, parsed}
 use Rattle.lines.specs.Sessions.{keptBytes}
 use Rattle.lines.specs.declared.Command.the-variants.{Unknown}
 use Rattle.lines.specs.declared.reading.Numeral.{Numeral}
 use Rattle.lines.specs.declared.reading.Numeral.the-variants.{Value, Nothing}
-use Rattle.lines.proofs.Cuts.{same-short}
 use Rattle.lines.proofs.Spelling.{numeral-long}
 
 -- how many bytes words have, with a space between each two
@@ -47,8 +47,8 @@ words-total (b ∷ s) =
     first s (λ ws. total (parted (eqb b 32) b ws) ≡ suc (total ws)) (λ w ws. total-parted (eqb b 32) b w ws) ∙ ap suc (words-total s)
 
 module _ (w : List ℕ) where
-  alone-long : 5 < length w → alone w ≡ Unknown
-  unfolding alone
+  alone-long : 5 < length w → loneWord w ≡ Unknown
+  unfolding loneWord
   alone-long h = rw (same-short w slotWord (λ e. omega arith), same-short w roundWord (λ e. omega arith)) refl
 
   one-long : (n : Numeral) → 6 < length w → withOne w n ≡ Unknown

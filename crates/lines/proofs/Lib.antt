@@ -1,14 +1,14 @@
 -- What upper crates cite is Laws. The rest is inner.
-mod Cuts
+mod Words
 mod Spelling
 mod Commands
 mod Lengths
 mod Decimals
-mod Telling
-mod Names
-mod Keeping
+mod Written
+mod RoundNames
+mod LineStarts
 mod Talks
-mod Whole
+mod Inputs
 mod Parts
 mod Unique
 mod Fetched

@@ -10,21 +10,20 @@ use lib.Seq.{take-nil}
 use borrow.Author.Tests.{le-leb}
 use Rattle.general.proofs.Laws.{by-bool}
 use Rattle.lines.specs.declared.hearing.Session.{Session}
-use Rattle.lines.specs.Replies.{room}
-use Rattle.lines.specs.Sessions.{Talk, heard, talked, begun, saidOf}
+use Rattle.lines.specs.Replies.{replyBytes}
+use Rattle.lines.specs.Sessions.{Talk, heard, talked, begun, saidAfter}
 use Rattle.lines.specs.Console.{heardAll}
 
 used-grows : (n : ℕ) (s : List ℕ) (t : Talk) → t .used ≤ talked n t s .used
 unfolding talked
 used-grows n [] t = omega arith
 used-grows n (b ∷ s) t =
-    by-bool (leb (length (t .said) + room) n) (λ e. rw e (omega (arith, used-grows n s (heard t b)))) (λ e. rw e (omega arith))
+    by-bool (leb (length (t .said) + replyBytes) n) (λ e. rw e (omega (arith, used-grows n s (heard t b)))) (λ e. rw e (omega arith))
 
 talk-part : (n : ℕ) (s : List ℕ) (t : Talk) → talked n t s ≡ heardAll t (take (talked n t s .used - t .used) s)
 unfolding talked heardAll
 talk-part n [] t = rw (take-nil {A = ℕ} (t .used - t .used)) refl
-talk-part n (b ∷ s) t =
-    by-bool (leb (length (t .said) + room) n)
+talk-part n (b ∷ s) t = by-bool (leb (length (t .said) + replyBytes) n)
     (λ e.
     let more = talked n (heard t b) s .used in
     let z : more - t .used ≡ suc (more - (t .used + 1)) = omega (arith, used-grows n s (heard t b)) in
@@ -36,9 +35,9 @@ pub fed-part : (n : ℕ) (s : Session) (B L I : List ℕ) → talked n (begun s 
 fed-part n s B L I = let z : talked n (begun s B L) I .used - 0 ≡ talked n (begun s B L) I .used = omega arith in rw z at (talk-part n I (begun s B L))
 
 -- with room for a reply it hears at least one byte
-pub fed-some : (n : ℕ) (s : Session) (B L : List ℕ) (b : ℕ) (I : List ℕ) → room ≤ n → 0 < talked n (begun s B L) (b ∷ I) .used
+pub fed-some : (n : ℕ) (s : Session) (B L : List ℕ) (b : ℕ) (I : List ℕ) → replyBytes ≤ n → 0 < talked n (begun s B L) (b ∷ I) .used
 unfolding talked
-fed-some n s B L b I h = rw (le-leb (0 + room) n h) (omega (arith, used-grows n I (heard (begun s B L) b)))
+fed-some n s B L b I h = rw (le-leb (0 + replyBytes) n h) (omega (arith, used-grows n I (heard (begun s B L) b)))
 
 -- a talk that begins where another stands
 abbrev pub anew : Talk → Talk
@@ -54,7 +53,7 @@ go-on [] t = let z : t .used + 0 ≡ t .used = omega arith in rw (append-nil (t 
 go-on (b ∷ s) t =
     let u = heardAll (anew (heard t b)) s in
     let z : t .used + 1 + u .used ≡ t .used + (0 + 1 + u .used) = omega arith in
-    rw (go-on s (heard t b), go-on s (heard (anew t) b), z, append-assoc (t .said) (saidOf (t .session) (t .board) (t .list) b) (u .said)) refl
+    rw (go-on s (heard t b), go-on s (heard (anew t) b), z, append-assoc (t .said) (saidAfter (t .session) (t .board) (t .list) b) (u .said)) refl
 
 pub heard-append : (s r : List ℕ) (t : Talk) → heardAll t (s ++ r) ≡ heardAll (heardAll t s) r
 unfolding heardAll

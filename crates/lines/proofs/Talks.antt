@@ -7,10 +7,10 @@ use native.Mathlib.Numerals.{add-one}
 use lib.ListN.{length, getD, take, drop, length-append, drop-of-length-le}
 use lib.Seq.{sets, sets-eq, take-at, drop-cons, length-take-le}
 use borrow.Author.Tests.{le-leb, lt-leb}
-use Rattle.lines.specs.Sessions.{Talk, heard, talked, sessionAfter, saidOf, boardHeard, listHeard, Hears, begun, Answered}
+use Rattle.lines.specs.Sessions.{Talk, heard, talked, sessionAfter, saidAfter, boardHeard, listHeard, Hears, begun, Answered}
 use Rattle.lines.specs.declared.hearing.Session.{Session}
 use Rattle.lines.specs.declared.hearing.Heard.{Heard}
-use Rattle.lines.proofs.Decimals.{sets-append}
+use Rattle.general.proofs.Laws.{sets-append}
 
 talk-more : (n : ℕ) (t : Talk) (b : ℕ) (s : List ℕ) → length (t .said) + 24573 ≤ n → talked n t (b ∷ s) ≡ talked n (heard t b) s
 unfolding talked
@@ -30,8 +30,7 @@ talk-end n t I i h = rw (drop-of-length-le I h) refl
 
 -- what stands before a place, and what was stored there
 take-sets : (O v : List ℕ) (at : ℕ) → at + length v ≤ length O → take (at + length v) (sets O at v) ≡ take at O ++ v
-take-sets O v at h =
-    rw (sets-eq v O at h)
+take-sets O v at h = rw (sets-eq v O at h)
     (take-at (take at O ++ v) (drop (at + length v) O) (at + length v) (rw (length-append, length-take-le at O (omega arith)) refl))
 
 -- one turn of the loop
@@ -40,21 +39,20 @@ module _ (I : List ℕ) (i : ℕ) (h : i < length I) (s : Session) (B L O : List
   talk-stops n full = rw (drop-cons I i 0 h) (talk-full n (talkAt s B L O to i) (getD I i 0) (drop (suc i) I) (rw (length-take-le to O within) full))
 
   module _ (R : Heard) (B′ L′ O′ : List ℕ) (fits : to + 24573 ≤ length O)
-      (p : Hears (sessionAfter s B L (getD I i 0)) (boardHeard s B L (getD I i 0)) (listHeard s B L (getD I i 0)) (saidOf s B L (getD I i 0)) O to R B′ L′ O′) where
-    ends : R .to ≡ to + length (saidOf s B L (getD I i 0))
+      (p : Hears (sessionAfter s B L (getD I i 0)) (boardHeard s B L (getD I i 0)) (listHeard s B L (getD I i 0)) (saidAfter s B L (getD I i 0)) O to R B′ L′ O′) where
+    ends : R .to ≡ to + length (saidAfter s B L (getD I i 0))
     ends = ap (λ (r : Heard). r .to) (p .handed)
 
-    said-now : take (R .to) O′ ≡ take to O ++ saidOf s B L (getD I i 0)
-    said-now = rw (p .bytes, ends) (take-sets O (saidOf s B L (getD I i 0)) to (omega (arith, ends, p .within)))
+    said-now : take (R .to) O′ ≡ take to O ++ saidAfter s B L (getD I i 0)
+    said-now = rw (p .bytes, ends) (take-sets O (saidAfter s B L (getD I i 0)) to (omega (arith, ends, p .within)))
 
     pub talk-goes : (n : ℕ) → n ≡ length O → talked n (talkAt s B L O to i) (drop i I) ≡ talked n (talkAt (R .session) B′ L′ O′ (R .to) (i + 1)) (drop (i + 1) I)
-    talk-goes n e =
-        rw (drop-cons I i 0 h, said-now, p .handed, p .leaves, p .waits, add-one i)
+    talk-goes n e = rw (drop-cons I i 0 h, said-now, p .handed, p .leaves, p .waits, add-one i)
         (rw (add-one i) at (talk-more n (talkAt s B L O to i) (getD I i 0) (drop (suc i) I) (rw (length-take-le to O within) (omega arith))))
 
     pub bytes-go : (O₀ : List ℕ) → O ≡ sets O₀ 0 (take to O) → O′ ≡ sets O₀ 0 (take (R .to) O′)
     bytes-go O₀ e =
-        let v = saidOf s B L (getD I i 0) in
+        let v = saidAfter s B L (getD I i 0) in
         let z : 0 + length (take to O) ≡ to = rw (length-take-le to O within) (omega arith) in
         rw said-now (p .bytes ∙ ap (λ (x : List ℕ). sets x to v) e ∙ (rw z at (sets-append O₀ 0 (take to O) v)))
 

@@ -27,10 +27,10 @@ abbrev pub linesOf : List ℕ → List (List ℕ)
 linesOf s = linesAfter [] s
 
 -- what is printed of lines, one after the other, from a record, a board and a list on
-unfoldable pub answers : Drive → List ℕ → List ℕ → List (List ℕ) → List ℕ
-answers d B L [] = []
-answers d B L (l ∷ ls) =
-    replyLine (parsed l) d B L ++ answers (driveAfter (parsed l) d B L) (boardAfter (parsed l) d B L) (listAfter (parsed l) d B L) ls
+unfoldable pub lineAnswers : Drive → List ℕ → List ℕ → List (List ℕ) → List ℕ
+lineAnswers d B L [] = []
+lineAnswers d B L (l ∷ ls) =
+    replyLine (parsed l) d B L ++ lineAnswers (driveAfter (parsed l) d B L) (boardAfter (parsed l) d B L) (listAfter (parsed l) d B L) ls
 
 -- a talk over an input, with room for everything
 unfoldable pub heardAll : Talk → List ℕ → Talk

@@ -5,15 +5,16 @@ use mathlib.Core.List.{List, [], _∷_}
 use Prim.Native.Nat.{ℕ, suc, _+_, _-_, _*_, max}
 use lib.Dec.{leb, eqb}
 use lib.ListN.{length}
+use Rattle.general.specs.Tests.{same}
 use Rattle.lines.specs.declared.Command.{Command}
 use Rattle.lines.specs.declared.Command.the-variants.{Open, Add, Remove, Slot, Round, Fetch, Unknown}
 use Rattle.lines.specs.declared.reading.Numeral.{Numeral}
 use Rattle.lines.specs.declared.reading.Numeral.the-variants.{Value, Nothing}
 
 -- the place of the first b, or the length where there is none
-unfoldable pub placeOf : ℕ → List ℕ → ℕ
-placeOf b [] = 0
-placeOf b (a ∷ s) = cond (eqb a b) 0 (suc (placeOf b s))
+unfoldable pub firstPlace : ℕ → List ℕ → ℕ
+firstPlace b [] = 0
+firstPlace b (a ∷ s) = cond (eqb a b) 0 (suc (firstPlace b s))
 
 -- a byte in front of the words of what follows it: a space ends an empty word, any other byte belongs to the word that follows
 abbrev pub parted : Bool → ℕ → List (List ℕ) → List (List ℕ)
@@ -26,31 +27,24 @@ unfoldable pub words : List ℕ → List (List ℕ)
 words [] = [] ∷ []
 words (b ∷ s) = parted (eqb b 32) b (words s)
 
--- two words are the same
-unfoldable pub same : List ℕ → List ℕ → Bool
-same [] [] = true
-same [] (b ∷ t) = false
-same (a ∷ s) [] = false
-same (a ∷ s) (b ∷ t) = eqb a b && same s t
-
 -- a digit, `0` to `9`
-unfoldable pub digit : ℕ → Bool
-digit b = leb 48 b && leb b 57
+unfoldable pub isDigit : ℕ → Bool
+isDigit b = leb 48 b && leb b 57
 
 -- nothing but digits
 unfoldable pub allDigits : List ℕ → Bool
 allDigits [] = true
-allDigits (b ∷ s) = digit b && allDigits s
+allDigits (b ∷ s) = isDigit b && allDigits s
 
 -- the number that digits spell after those that spell v
-unfoldable pub spelled : ℕ → List ℕ → ℕ
-spelled v [] = v
-spelled v (b ∷ s) = spelled (v * 10 + (b - 48)) s
+unfoldable pub spelledNumber : ℕ → List ℕ → ℕ
+spelledNumber v [] = v
+spelledNumber v (b ∷ s) = spelledNumber (v * 10 + (b - 48)) s
 
 -- a word as a number: it has 1 to most digits and nothing else, and is at most limit
 unfoldable pub numeral : ℕ → ℕ → List ℕ → Numeral
 numeral most limit w =
-    cond (leb 1 (length w) && leb (length w) most && allDigits w && leb (spelled 0 w) limit) (Value (spelled 0 w)) Nothing
+    cond (leb 1 (length w) && leb (length w) most && allDigits w && leb (spelledNumber 0 w) limit) (Value (spelledNumber 0 w)) Nothing
 
 -- "numbers have 1 to 5 digits and are at most 65,535"
 abbrev pub mostDigits : ℕ
@@ -97,8 +91,8 @@ longest =
     (max (max (length slotWord) (length roundWord)) (span fetchWord 1 ticketDigits))
 
 -- `slot`, `round`
-unfoldable pub alone : List ℕ → Command
-alone w = cond (same w slotWord) Slot (cond (same w roundWord) Round Unknown)
+unfoldable pub loneWord : List ℕ → Command
+loneWord w = cond (same w slotWord) Slot (cond (same w roundWord) Round Unknown)
 
 -- `open C`, `remove NAME`
 unfoldable pub withOne : List ℕ → Numeral → Command
@@ -119,7 +113,7 @@ withTwo w (Value x) (Value y) = cond (same w addWord) (Add x y) Unknown
 -- the command of a line's words; "anything else, an empty line included", is not understood
 unfoldable pub command : List (List ℕ) → Command
 command [] = Unknown
-command (w ∷ []) = alone w
+command (w ∷ []) = loneWord w
 command (w ∷ x ∷ []) = cond (same w fetchWord) (withTicket (ticket x)) (withOne w (shortNumber x))
 command (w ∷ x ∷ y ∷ []) = withTwo w (shortNumber x) (shortNumber y)
 command (w ∷ x ∷ y ∷ z ∷ ws) = Unknown

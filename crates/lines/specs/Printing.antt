@@ -4,7 +4,6 @@ use mathlib.Core.Bool.{cond}
 use mathlib.Core.List.{List, [], _∷_, _++_}
 use Prim.Native.Nat.{ℕ, zero, suc, _+_, _/_, _%_}
 use lib.Dec.{ltb}
-use lib.ListN.{replicate}
 
 -- the digits of n in at most f + 1 steps: its last digit, after those of n / 10 where n has more than one
 unfoldable pub decimalIn : ℕ → ℕ → List ℕ
@@ -33,9 +32,5 @@ unfolding decimal fields
 line n vs = decimal n ++ (fields vs ++ (10 ∷ []))
 
 -- the line for what is not understood: `?`
-unfoldable pub unknown : List ℕ
-unknown = 63 ∷ 10 ∷ []
-
--- n entries, all 0
-unfoldable pub blank : ℕ → List ℕ
-blank n = replicate n 0
+unfoldable pub unknownLine : List ℕ
+unknownLine = 63 ∷ 10 ∷ []

@@ -9,14 +9,12 @@ use lib.Dec.{leb, eqb}
 use lib.ListN.{length}
 use lib.Seq.{sets}
 use Rattle.calls.specs.declared.Drive.{Drive}
-use Rattle.calls.specs.declared.Opening.{Opening}
-use Rattle.calls.specs.declared.Opening.the-variants as opening
+use Rattle.calls.specs.declared.Check.{Check}
+use Rattle.calls.specs.declared.Check.the-variants.{Clear, Refused}
 use Rattle.calls.specs.declared.Serving.{Serving}
 use Rattle.calls.specs.declared.Serving.the-variants as serving
-use Rattle.calls.specs.declared.Rounding.{Rounding}
-use Rattle.calls.specs.declared.Rounding.the-variants as rounding
 use Rattle.calls.specs.Refusals.{numberOf, roundCheck}
-use Rattle.calls.specs.Results.{roundingBy, roundNames}
+use Rattle.calls.specs.Results.{ifClear, roundNames}
 use Rattle.waiting.specs.declared.Fetching.{Fetching}
 use Rattle.waiting.specs.declared.Fetching.the-variants as fetching
 use Rattle.waiting.specs.Layout.{fetched, fetchedList}
@@ -27,13 +25,13 @@ use Rattle.lines.specs.declared.Command.{Command}
 use Rattle.lines.specs.declared.Command.the-variants.{Open, Add, Remove, Slot, Round, Fetch, Unknown}
 use Rattle.lines.specs.declared.talking.Stepped.{Stepped}
 use Rattle.lines.specs.Grammar.{parsed}
-use Rattle.lines.specs.Printing.{line, unknown}
+use Rattle.lines.specs.Printing.{line, unknownLine}
 
 -- "Output: the answer number (0 for done), then for add and remove the idle leaves, for slot the name and leaf, for round the C names.
--- A refusal prints its number alone"; ROOM prints 10 and the idle leaves (document 02, No. 5).
-abbrev pub openingLine : Opening → List ℕ
-openingLine opening.Done = line 0 []
-openingLine (opening.Refused r) = line (numberOf r) []
+-- A refusal prints its number alone"; ROOM prints 10 and the idle leaves (document 02, No. 5). Of open, and of a round with its names:
+abbrev pub checkLine : Check → List ℕ → List ℕ
+checkLine Clear names = line 0 names
+checkLine (Refused r) names = line (numberOf r) []
 
 -- No. 5: 10 and the idle leaves there are. No. 2: 13 and the ticket; 14.
 abbrev pub orderingLine : Ordering → List ℕ
@@ -47,13 +45,9 @@ abbrev pub servingLine : Serving → List ℕ
 servingLine (serving.Slot name leaf passed round) = line 0 (name ∷ leaf ∷ [])
 servingLine (serving.Refused r) = line (numberOf r) []
 
-abbrev pub roundingLine : Rounding → List ℕ → List ℕ
-roundingLine rounding.Done names = line 0 names
-roundingLine (rounding.Refused r) names = line (numberOf r) []
-
 -- a round is written to an output of 4,095 entries
 unfoldable pub roundLine : Drive → List ℕ → List ℕ
-roundLine d B = roundingLine (roundingBy (roundCheck d B 4095)) (roundNames (d .capacity) B)
+roundLine d B = checkLine (roundCheck d B 4095) (roundNames (d .capacity) B)
 
 -- an answer that was fetched, as the change would have printed it: the idle leaves after 0 and after 10, any other number alone
 abbrev pub outcomeLine : ℕ → ℕ → List ℕ
@@ -67,22 +61,17 @@ fetchingLine fetching.Unknown = line 15 []
 
 -- the line printed for a command, of a record, a board and a list
 unfoldable pub replyLine : Command → Drive → List ℕ → List ℕ → List ℕ
-replyLine (Open C) d B L = openingLine (opened C B (length L) .answer)
+replyLine (Open C) d B L = checkLine (opened C B (length L) .answer) []
 replyLine (Add x w) d B L = orderingLine (changed d B L (addOrder x w) .answer)
 replyLine (Remove x) d B L = orderingLine (changed d B L (removeOrder x) .answer)
 replyLine Slot d B L = servingLine (served d B L .answer)
 replyLine Round d B L = roundLine d B
 replyLine (Fetch t) d B L = fetchingLine (fetched L t)
-replyLine Unknown d B L = unknown
+replyLine Unknown d B L = unknownLine
 
--- "A refused open keeps the old record."
-abbrev pub keptBy : Opening → Drive → Drive → Drive
-keptBy opening.Done new old = new
-keptBy (opening.Refused r) new old = old
-
--- the record after a command
+-- the record after a command; "a refused open keeps the old record"
 unfoldable pub driveAfter : Command → Drive → List ℕ → List ℕ → Drive
-driveAfter (Open C) d B L = keptBy (opened C B (length L) .answer) (opened C B (length L) .drive) d
+driveAfter (Open C) d B L = ifClear (opened C B (length L) .answer) (opened C B (length L) .drive) d
 driveAfter (Add x w) d B L = changed d B L (addOrder x w) .drive
 driveAfter (Remove x) d B L = changed d B L (removeOrder x) .drive
 driveAfter Slot d B L = served d B L .drive
@@ -111,34 +100,34 @@ listAfter (Fetch t) d B L = fetchedList L t
 listAfter Unknown d B L = L
 
 -- room for any reply: an answer number of two digits, 4,095 values of five digits, each after a space, and a line feed
-abbrev pub room : ℕ
-room = 24573
+abbrev pub replyBytes : ℕ
+replyBytes = 24573
 
 -- A line was written to the lent bytes, from the place at on, and nothing else of them changed: the record and the place after the line, and the bytes.
 pub record Told (d : Drive) (said : List ℕ) (out : List ℕ) (at : ℕ) (r : Stepped) (out′ : List ℕ) : Type 0 where
   pub drive : r .drive ≡ d
   pub to : r .to ≡ at + length said
   pub bytes : out′ ≡ sets out at said
-  pub within : r .to ≤ at + room
+  pub within : r .to ≤ at + replyBytes
 
 -- ---- one line
 
 -- what a step over a line gives: the record after the command that the line is, and how many bytes its reply has; with less room than a reply may need, nothing is done
 abbrev pub stepped : List ℕ → Drive → List ℕ → List ℕ → List ℕ → Stepped
 stepped l d B L O =
-    cond (leb room (length O))
+    cond (leb replyBytes (length O))
     (record { drive = driveAfter (parsed l) d B L; to = length (replyLine (parsed l) d B L) })
     (record { drive = d; to = 0 })
 
 abbrev pub steppedBoard : List ℕ → Drive → List ℕ → List ℕ → List ℕ → List ℕ
-steppedBoard l d B L O = cond (leb room (length O)) (boardAfter (parsed l) d B L) B
+steppedBoard l d B L O = cond (leb replyBytes (length O)) (boardAfter (parsed l) d B L) B
 
 abbrev pub steppedList : List ℕ → Drive → List ℕ → List ℕ → List ℕ → List ℕ
-steppedList l d B L O = cond (leb room (length O)) (listAfter (parsed l) d B L) L
+steppedList l d B L O = cond (leb replyBytes (length O)) (listAfter (parsed l) d B L) L
 
 -- the reply stands at the start of the lent bytes, and the bytes after it are as they were
 abbrev pub steppedBytes : List ℕ → Drive → List ℕ → List ℕ → List ℕ → List ℕ
-steppedBytes l d B L O = cond (leb room (length O)) (sets O 0 (replyLine (parsed l) d B L)) O
+steppedBytes l d B L O = cond (leb replyBytes (length O)) (sets O 0 (replyLine (parsed l) d B L)) O
 
 -- What a step over a line l promises: the result, and the board, the list and the lent bytes at exit.
 abbrev pub Steps : List ℕ → Drive → List ℕ → List ℕ → List ℕ → Stepped → List ℕ → List ℕ → List ℕ → Type 0

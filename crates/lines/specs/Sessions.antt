@@ -12,8 +12,8 @@ use Rattle.lines.specs.declared.hearing.Session.{Session}
 use Rattle.lines.specs.declared.hearing.Heard.{Heard}
 use Rattle.lines.specs.declared.hearing.Fed.{Fed}
 use Rattle.lines.specs.Grammar.{longest, parsed}
-use Rattle.lines.specs.Printing.{blank}
-use Rattle.lines.specs.Replies.{room, replyLine, driveAfter, boardAfter, listAfter}
+use Rattle.general.specs.Lists.{blank}
+use Rattle.lines.specs.Replies.{replyBytes, replyLine, driveAfter, boardAfter, listAfter}
 
 -- how many bytes of a line are kept: one more than the longest command has, so that of a longer line more is kept than any command has
 abbrev pub keptBytes : ℕ
@@ -48,8 +48,8 @@ boardHeard s B L b = cond (eqb b 10) (boardAfter (parsed (lineOf s)) (s .drive) 
 abbrev pub listHeard : Session → List ℕ → List ℕ → ℕ → List ℕ
 listHeard s B L b = cond (eqb b 10) (listAfter (parsed (lineOf s)) (s .drive) B L) L
 
-abbrev pub saidOf : Session → List ℕ → List ℕ → ℕ → List ℕ
-saidOf s B L b = cond (eqb b 10) (replyLine (parsed (lineOf s)) (s .drive) B L) []
+abbrev pub saidAfter : Session → List ℕ → List ℕ → ℕ → List ℕ
+saidAfter s B L b = cond (eqb b 10) (replyLine (parsed (lineOf s)) (s .drive) B L) []
 
 -- What hearing gives at a place of the lent bytes O: the next session, board and list, what is said from that place on, and nothing else of the bytes changed.
 pub record Hears (next : Session) (board list said O : List ℕ) (at : ℕ) (r : Heard) (B′ L′ O′ : List ℕ) : Type 0 where
@@ -57,7 +57,7 @@ pub record Hears (next : Session) (board list said O : List ℕ) (at : ℕ) (r :
   pub leaves : B′ ≡ board
   pub waits : L′ ≡ list
   pub bytes : O′ ≡ sets O at said
-  pub within : r .to ≤ at + room
+  pub within : r .to ≤ at + replyBytes
 
 -- A talk: the session, the board, the list, all that was said, and how many bytes were heard.
 pub record Talk : Type 0 where
@@ -74,14 +74,14 @@ heard t b =
       session = sessionAfter (t .session) (t .board) (t .list) b;
       board = boardHeard (t .session) (t .board) (t .list) b;
       list = listHeard (t .session) (t .board) (t .list) b;
-      said = t .said ++ saidOf (t .session) (t .board) (t .list) b;
+      said = t .said ++ saidAfter (t .session) (t .board) (t .list) b;
       used = t .used + 1;
     }
 
 -- the talk over an input, as far as n bytes have room for a reply at each of its bytes
 unfoldable pub talked : ℕ → Talk → List ℕ → Talk
 talked n t [] = t
-talked n t (b ∷ s) = let more = talked n (heard t b) s in cond (leb (length (t .said) + room) n) more t
+talked n t (b ∷ s) = let more = talked n (heard t b) s in cond (leb (length (t .said) + replyBytes) n) more t
 
 -- a talk that begins
 abbrev pub begun : Session → List ℕ → List ℕ → Talk

@@ -7,8 +7,8 @@ ghost use mathlib.Core.Path.{_≡_};
 ghost use Prim.Native.Nat.{_+_, _≤_, min};
 ghost use lib.ListN.{length};
 ghost use Rattle.lines.specs.Grammar.{parsed};
-ghost use Rattle.lines.specs.Replies.{room, replyLine, boardAfter, listAfter};
-ghost use Rattle.lines.specs.Sessions.{started, lineOf, kept as Sessions·kept, ended, sessionAfter, boardHeard, listHeard, saidOf, lastOf, Hears, Answered};
+ghost use Rattle.lines.specs.Replies.{replyBytes, replyLine, boardAfter, listAfter};
+ghost use Rattle.lines.specs.Sessions.{started, lineOf, kept as Sessions·kept, ended, sessionAfter, boardHeard, listHeard, saidAfter, lastOf, Hears, Answered};
 
 // How many bytes of a line are kept: one more than the longest command has, which is `fetch` with a ticket of twenty
 // digits, so that a longer line is not understood, kept or whole.
@@ -68,7 +68,7 @@ fn least(a: usize, b: usize) -> usize
 
 // The end of a line: it is answered at a place of the lent bytes.
 fn end_line(s: Session, board: &mut [u16], list: &mut [u64], out: &mut [u8], at: usize) -> Heard
-    requires { ⌜ at + room ≤ length (now out) ⌝ }
+    requires { ⌜ at + replyBytes ≤ length (now out) ⌝ }
     ensures { λ r. ⌜ Hears (ended s (now (board .entry)) (now (list .entry))) (boardAfter (parsed (lineOf s)) (s .drive) (now (board .entry)) (now (list .entry))) (listAfter (parsed (lineOf s)) (s .drive) (now (board .entry)) (now (list .entry))) (replyLine (parsed (lineOf s)) (s .drive) (now (board .entry)) (now (list .entry))) (now (out .entry)) at r (now (board .exit)) (now (list .exit)) (now (out .exit)) ⌝ }
 {
     let start = s.start;
@@ -90,8 +90,8 @@ fn end_line(s: Session, board: &mut [u16], list: &mut [u64], out: &mut [u8], at:
 
 // One byte of input.
 fn hear(s: Session, b: u8, board: &mut [u16], list: &mut [u64], out: &mut [u8], at: usize) -> Heard
-    requires { ⌜ at + room ≤ length (now out) ⌝ }
-    ensures { λ r. ⌜ Hears (sessionAfter s (now (board .entry)) (now (list .entry)) b) (boardHeard s (now (board .entry)) (now (list .entry)) b) (listHeard s (now (board .entry)) (now (list .entry)) b) (saidOf s (now (board .entry)) (now (list .entry)) b) (now (out .entry)) at r (now (board .exit)) (now (list .exit)) (now (out .exit)) ⌝ }
+    requires { ⌜ at + replyBytes ≤ length (now out) ⌝ }
+    ensures { λ r. ⌜ Hears (sessionAfter s (now (board .entry)) (now (list .entry)) b) (boardHeard s (now (board .entry)) (now (list .entry)) b) (listHeard s (now (board .entry)) (now (list .entry)) b) (saidAfter s (now (board .entry)) (now (list .entry)) b) (now (out .entry)) at r (now (board .exit)) (now (list .exit)) (now (out .exit)) ⌝ }
 {
     if b == b'\n' {
         return end_line(s, board, list, out, at);

@@ -2,7 +2,8 @@
 use crate::Command;
 ghost use mathlib.Core.Path.{_≡_};
 ghost use mathlib.Core.List.{_∷_};
-ghost use Rattle.lines.specs.Grammar.{placeOf, words, same as Grammar·same, numeral, shortNumber as Grammar·number, ticket, alone as Grammar·alone, withOne, withTicket, withTwo, command, parsed};
+ghost use Rattle.general.specs.Tests.{same as Tests·same};
+ghost use Rattle.lines.specs.Grammar.{firstPlace, words, numeral, shortNumber as Grammar·number, ticket, loneWord, withOne, withTicket, withTwo, command, parsed};
 
 // A word read as a number.
 pub enum Numeral {
@@ -22,7 +23,7 @@ const LARGEST_TICKET: usize = 18446744073709551615;
 
 // The place of the first `b` in `s`, or the length of `s` where it has none.
 fn find(s: &[u8], b: u8) -> usize
-    ensures { λ r. ⌜ r ≡ placeOf b (now (s .entry)) ⌝ }
+    ensures { λ r. ⌜ r ≡ firstPlace b (now (s .entry)) ⌝ }
 {
     let mut i = 0;
     while i < s.len() {
@@ -36,7 +37,7 @@ fn find(s: &[u8], b: u8) -> usize
 
 // Whether two words are the same.
 fn same(s: &[u8], t: &[u8]) -> bool
-    ensures { λ r. ⌜ r ≡ Grammar·same (now (s .entry)) (now (t .entry)) ⌝ }
+    ensures { λ r. ⌜ r ≡ Tests·same (now (s .entry)) (now (t .entry)) ⌝ }
 {
     if s.len() != t.len() {
         return false;
@@ -87,7 +88,7 @@ fn number(word: &[u8], most: usize, limit: usize) -> Numeral
 
 // The command of a line of one word.
 fn alone(word: &[u8]) -> Command
-    ensures { λ r. ⌜ r ≡ Grammar·alone (now (word .entry)) ⌝ }
+    ensures { λ r. ⌜ r ≡ loneWord (now (word .entry)) ⌝ }
 {
     if same(word, b"slot") {
         return Command::Slot;

@@ -4,11 +4,10 @@ use crate::reading::parse;
 use crate::writing::put_alone;
 use crate::writing::put_line;
 use crate::writing::put_value;
+use calls::Check;
+use calls::Checked;
 use calls::Drive;
-use calls::Opened;
-use calls::Opening;
 use calls::Refusal;
-use calls::Rounding;
 use calls::Served;
 use calls::Serving;
 use orders::Ordered;
@@ -19,8 +18,10 @@ ghost use mathlib.Core.List.{[]};
 ghost use Prim.Native.Nat.{_+_, _≤_};
 ghost use lib.ListN.{length};
 ghost use Rattle.calls.specs.Refusals.{numberOf};
-ghost use Rattle.lines.specs.Printing.{line, unknown, blank};
-ghost use Rattle.lines.specs.Replies.{room, Told, openingLine, orderingLine, servingLine, roundLine, outcomeLine, fetchingLine, keptBy, replyLine, driveAfter, boardAfter, listAfter, Steps};
+ghost use Rattle.calls.specs.Results.{ifClear};
+ghost use Rattle.general.specs.Lists.{blank};
+ghost use Rattle.lines.specs.Printing.{line, unknownLine};
+ghost use Rattle.lines.specs.Replies.{replyBytes, Told, checkLine, orderingLine, servingLine, roundLine, outcomeLine, fetchingLine, replyLine, driveAfter, boardAfter, listAfter, Steps};
 
 // The record after a command, and the place in the lent bytes after its reply.
 pub struct Stepped {
@@ -33,7 +34,7 @@ pub const ROOM: usize = 24573;
 
 // The line of a refusal.
 fn tell_refusal(drive: Drive, refusal: Refusal, out: &mut [u8], at: usize) -> Stepped
-    requires { ⌜ at + room ≤ length (now out) ⌝ }
+    requires { ⌜ at + replyBytes ≤ length (now out) ⌝ }
     ensures { λ r. ⌜ Told drive (line (numberOf refusal) []) (now (out .entry)) at r (now (out .exit)) ⌝ }
 {
     let number = refusal.number();
@@ -44,24 +45,24 @@ fn tell_refusal(drive: Drive, refusal: Refusal, out: &mut [u8], at: usize) -> St
 }
 
 // The line of an open; refused, it keeps the old record.
-fn tell_opening(old: Drive, opened: Opened, out: &mut [u8], at: usize) -> Stepped
-    requires { ⌜ at + room ≤ length (now out) ⌝ }
-    ensures { λ r. ⌜ Told (keptBy (opened .answer) (opened .drive) old) (openingLine (opened .answer)) (now (out .entry)) at r (now (out .exit)) ⌝ }
+fn tell_opening(old: Drive, opened: Checked, out: &mut [u8], at: usize) -> Stepped
+    requires { ⌜ at + replyBytes ≤ length (now out) ⌝ }
+    ensures { λ r. ⌜ Told (ifClear (opened .answer) (opened .drive) old) (checkLine (opened .answer) []) (now (out .entry)) at r (now (out .exit)) ⌝ }
 {
     let new = opened.drive;
     let answer = opened.answer;
     match answer {
-        Opening::Done => Stepped {
+        Check::Clear => Stepped {
             drive: new,
             to: put_alone(out, at, 0),
         },
-        Opening::Refused(r) => tell_refusal(old, r, out, at),
+        Check::Refused(r) => tell_refusal(old, r, out, at),
     }
 }
 
 // The line of an add or a remove.
 fn tell_ordering(ordered: Ordered, out: &mut [u8], at: usize) -> Stepped
-    requires { ⌜ at + room ≤ length (now out) ⌝ }
+    requires { ⌜ at + replyBytes ≤ length (now out) ⌝ }
     ensures { λ r. ⌜ Told (ordered .drive) (orderingLine (ordered .answer)) (now (out .entry)) at r (now (out .exit)) ⌝ }
 {
     let drive = ordered.drive;
@@ -89,7 +90,7 @@ fn tell_ordering(ordered: Ordered, out: &mut [u8], at: usize) -> Stepped
 
 // The line of an answer that was fetched, as the change would have had it: the idle leaves stand after 0 and after 10.
 fn tell_outcome(drive: Drive, number: u64, value: u64, out: &mut [u8], at: usize) -> Stepped
-    requires { ⌜ at + room ≤ length (now out) ⌝ }
+    requires { ⌜ at + replyBytes ≤ length (now out) ⌝ }
     ensures { λ r. ⌜ Told drive (outcomeLine number value) (now (out .entry)) at r (now (out .exit)) ⌝ }
 {
     if number == 0 {
@@ -112,7 +113,7 @@ fn tell_outcome(drive: Drive, number: u64, value: u64, out: &mut [u8], at: usize
 
 // The line of a fetch.
 fn tell_fetching(drive: Drive, answer: Fetching, out: &mut [u8], at: usize) -> Stepped
-    requires { ⌜ at + room ≤ length (now out) ⌝ }
+    requires { ⌜ at + replyBytes ≤ length (now out) ⌝ }
     ensures { λ r. ⌜ Told drive (fetchingLine answer) (now (out .entry)) at r (now (out .exit)) ⌝ }
 {
     match answer {
@@ -130,7 +131,7 @@ fn tell_fetching(drive: Drive, answer: Fetching, out: &mut [u8], at: usize) -> S
 
 // The line of a slot.
 fn tell_serving(served: Served, out: &mut [u8], at: usize) -> Stepped
-    requires { ⌜ at + room ≤ length (now out) ⌝ }
+    requires { ⌜ at + replyBytes ≤ length (now out) ⌝ }
     ensures { λ r. ⌜ Told (served .drive) (servingLine (served .answer)) (now (out .entry)) at r (now (out .exit)) ⌝ }
 {
     let drive = served.drive;
@@ -153,36 +154,36 @@ fn tell_serving(served: Served, out: &mut [u8], at: usize) -> Stepped
 }
 
 // Room for the names of a round.
-fn no_names() -> [u16; 4095]
+fn no_names() -> [u16; Drive::LARGEST]
     ensures { λ r. ⌜ r ≡ blank 4095 ⌝ }
 {
-    [0u16; 4095]
+    [0u16; Drive::LARGEST]
 }
 
 // Writes a round and its line.
 fn tell_round(drive: Drive, board: &[u16], out: &mut [u8], at: usize) -> Stepped
-    requires { ⌜ at + room ≤ length (now out) ⌝ }
+    requires { ⌜ at + replyBytes ≤ length (now out) ⌝ }
     ensures { λ r. ⌜ Told drive (roundLine drive (now (board .entry))) (now (out .entry)) at r (now (out .exit)) ⌝ }
 {
     let mut names = no_names();
     let rounded = drive.round(board, &mut names);
     let answer = rounded.answer;
     match answer {
-        Rounding::Done => {
+        Check::Clear => {
             let c = drive.capacity as usize;
             Stepped {
                 drive,
                 to: put_line(out, at, 0, &names[..c]),
             }
         }
-        Rounding::Refused(r) => tell_refusal(drive, r, out, at),
+        Check::Refused(r) => tell_refusal(drive, r, out, at),
     }
 }
 
 // The line for what is not understood.
 fn tell_unknown(drive: Drive, out: &mut [u8], at: usize) -> Stepped
-    requires { ⌜ at + room ≤ length (now out) ⌝ }
-    ensures { λ r. ⌜ Told drive unknown (now (out .entry)) at r (now (out .exit)) ⌝ }
+    requires { ⌜ at + replyBytes ≤ length (now out) ⌝ }
+    ensures { λ r. ⌜ Told drive unknownLine (now (out .entry)) at r (now (out .exit)) ⌝ }
 {
     out[at] = b'?';
     out[at + 1] = b'\n';
@@ -198,7 +199,7 @@ pub fn answer(
     out: &mut [u8],
     at: usize,
 ) -> Stepped
-    requires { ⌜ at + room ≤ length (now out) ⌝ }
+    requires { ⌜ at + replyBytes ≤ length (now out) ⌝ }
     ensures { λ r. ⌜ (Told (driveAfter command drive (now (board .entry)) (now (list .entry))) (replyLine command drive (now (board .entry)) (now (list .entry))) (now (out .entry)) at r (now (out .exit))) × (now (board .exit) ≡ boardAfter command drive (now (board .entry)) (now (list .entry))) × (now (list .exit) ≡ listAfter command drive (now (board .entry)) (now (list .entry))) ⌝ }
 {
     match command {

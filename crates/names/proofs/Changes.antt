@@ -1,4 +1,4 @@
--- A number entered in a table: at the place of its name, or at a new one. Assumes nothing.
+-- A number entered in a table: at the row of its name, or at a new one. Assumes nothing.
 use mathlib.Core.Path.{_≡_, refl, sym, ap, _∙_}
 use mathlib.Core.Bool.{cond}
 use mathlib.Core.List.{List}
@@ -9,15 +9,15 @@ use lib.Dec.{eqb}
 use lib.ListN.{length, getD, set, length-set}
 use lib.Seq.{getD-set-same, getD-set-other}
 use borrow.Author.Tests.{eq-eqb, ne-eqb}
-use Rattle.names.specs.Table.{taken, next, first, walk, placeOf, numberOf, cell, Table, Added, Entered}
-use Rattle.names.proofs.Walks.{walk-here, walk-on, walk-same, place-walk, place-le, place-high, place-own}
+use Rattle.names.specs.Table.{rowsTaken, nextRow, firstRow, rowFrom, rowOf, numberUnder, cell, Table, Added, Entered}
+use Rattle.names.proofs.Walks.{walk-here, walk-on, walk-same, row-walk, row-le, row-high, row-own}
 
 module _ (M : List ℕ) (T : Table M) (x v : ℕ) (name : x < 65536) (low : v < 4096) where
-  -- ---- a name that has a place
+  -- ---- a name that has a row
 
-  module _ (p : placeOf M x ≡ 0 → ⊥) where
+  module _ (p : rowOf M x ≡ 0 → ⊥) where
     abbrev n : ℕ
-    n = placeOf M x
+    n = rowOf M x
 
     abbrev M₁ : List ℕ
     M₁ = set M n (cell x v)
@@ -26,27 +26,27 @@ module _ (M : List ℕ) (T : Table M) (x v : ℕ) (name : x < 65536) (low : v < 
     other i q = getD-set-other M n i (cell x v) 0 q
 
     above : (i : ℕ) → getD M₁ (4097 + i) 0 ≡ getD M (4097 + i) 0
-    above i = other (4097 + i) (λ e. omega (arith, place-le M T x, T .room))
+    above i = other (4097 + i) (λ e. omega (arith, row-le M T x, T .room))
 
-    ends : (b : ℕ) → first M₁ b ≡ first M b
-    ends b = other (8194 + b) (λ e. omega (arith, place-le M T x, T .room))
+    ends : (b : ℕ) → firstRow M₁ b ≡ firstRow M b
+    ends b = other (8194 + b) (λ e. omega (arith, row-le M T x, T .room))
 
     here : getD M₁ n 0 ≡ cell x v
-    here = getD-set-same M n (cell x v) 0 (omega (arith, place-le M T x, T .room, T .size))
+    here = getD-set-same M n (cell x v) 0 (omega (arith, row-le M T x, T .room, T .size))
 
     high : (i : ℕ) → getD M₁ i 0 / 4096 ≡ getD M i 0 / 4096
     high i = elim (ℕ-discrete i n) [
-      | yes e ↦ rw e (omega (arith, here, place-high M T x p))
+      | yes e ↦ rw e (omega (arith, here, row-high M T x p))
       | no q ↦ ap (λ (k : ℕ). k / 4096) (other i q)
     ]
 
-    place-kept : (y : ℕ) → placeOf M₁ y ≡ placeOf M y
-    unfolding placeOf
-    place-kept y =
-        rw (ends (y % 4096)) (walk-same M T (y / 4096) M₁ (λ i q h. (high i, above i)) (first M (y % 4096)) (first M (y % 4096)) (T .firsts (y % 4096) (omega arith)))
+    row-kept : (y : ℕ) → rowOf M₁ y ≡ rowOf M y
+    unfolding rowOf
+    row-kept y =
+        rw (ends (y % 4096)) (walk-same M T (y / 4096) M₁ (λ i q h. (high i, above i)) (firstRow M (y % 4096)) (firstRow M (y % 4096)) (T .firsts (y % 4096) (omega arith)))
 
     pub entered-again : Entered M M₁ x v
-    unfolding numberOf
+    unfolding numberUnder
     entered-again =
         record {
           table =
@@ -64,56 +64,56 @@ module _ (M : List ℕ) (T : Table M) (x v : ℕ) (name : x < 65536) (low : v < 
                 low-first = λ b h q. ap (T .low) (ends b) ∙ T .low-first b h (omega (arith, ends b));
                 low-next = λ i q h r. ap (T .low) (above i) ∙ T .low-next i q (omega (arith, above 0)) (omega (arith, above i));
               };
-          own = rw (place-kept x) (omega (arith, here));
-          others = λ y q. rw (place-kept y) (ap (λ (k : ℕ). k % 4096) (other (placeOf M y) (λ e. q (sym (place-own M T x y p (sym e))))));
+          own = rw (row-kept x) (omega (arith, here));
+          others = λ y q. rw (row-kept y) (ap (λ (k : ℕ). k % 4096) (other (rowOf M y) (λ e. q (sym (row-own M T x y p (sym e))))));
           many = omega (arith, above 0);
           again = λ _. above 0;
         }
 
   -- ---- a name that has none
 
-  module _ (z : placeOf M x ≡ 0) (free : taken M < 4096) (M₂ : List ℕ) (A : Added M M₂ x v) where
+  module _ (z : rowOf M x ≡ 0) (free : rowsTaken M < 4096) (M₂ : List ℕ) (A : Added M M₂ x v) where
     abbrev m : ℕ
-    m = suc (taken M)
+    m = suc (rowsTaken M)
 
     abbrev b : ℕ
     b = x % 4096
 
-    cell-kept : (i : ℕ) → i ≤ taken M → getD M₂ i 0 ≡ getD M i 0
+    cell-kept : (i : ℕ) → i ≤ rowsTaken M → getD M₂ i 0 ≡ getD M i 0
     cell-kept i h = A .others i (λ e. omega arith) (λ e. omega arith) (λ e. omega arith) (λ e. omega arith)
 
-    next-kept : (i : ℕ) → 0 < i → i ≤ taken M → next M₂ i ≡ next M i
+    next-kept : (i : ℕ) → 0 < i → i ≤ rowsTaken M → nextRow M₂ i ≡ nextRow M i
     next-kept i q h = A .others (4097 + i) (λ e. omega arith) (λ e. omega arith) (λ e. omega arith) (λ e. omega arith)
 
-    first-kept : (d : ℕ) → (d ≡ b → ⊥) → first M₂ d ≡ first M d
+    first-kept : (d : ℕ) → (d ≡ b → ⊥) → firstRow M₂ d ≡ firstRow M d
     first-kept d q = A .others (8194 + d) (λ e. omega arith) (λ e. omega arith) (λ e. omega arith) (λ e. q (omega arith))
 
-    walk-kept : (t k i : ℕ) → i ≤ taken M → walk M₂ t k i ≡ walk M t k i
+    walk-kept : (t k i : ℕ) → i ≤ rowsTaken M → rowFrom M₂ t k i ≡ rowFrom M t k i
     walk-kept t k i h = walk-same M T t M₂ (λ j q r. (ap (λ (w : ℕ). w / 4096) (cell-kept j r), next-kept j q r)) k i h
 
-    -- The name has the new placeOf, and every other its own.
-    place-new : placeOf M₂ x ≡ m
-    unfolding placeOf
-    place-new = rw (A .start) (walk-here M₂ (x / 4096) (taken M) m (λ e. omega arith) (omega (arith, A .here)))
+    -- The name has the new rowOf, and every other its own.
+    row-new : rowOf M₂ x ≡ m
+    unfolding rowOf
+    row-new = rw (A .start) (walk-here M₂ (x / 4096) (rowsTaken M) m (λ e. omega arith) (omega (arith, A .here)))
 
-    place-apart : (y : ℕ) → (y % 4096 ≡ b → ⊥) → placeOf M₂ y ≡ placeOf M y
-    unfolding placeOf
-    place-apart y d = rw (first-kept (y % 4096) d) (walk-kept (y / 4096) (first M (y % 4096)) (first M (y % 4096)) (T .firsts (y % 4096) (omega arith)))
+    row-apart : (y : ℕ) → (y % 4096 ≡ b → ⊥) → rowOf M₂ y ≡ rowOf M y
+    unfolding rowOf
+    row-apart y d = rw (first-kept (y % 4096) d) (walk-kept (y / 4096) (firstRow M (y % 4096)) (firstRow M (y % 4096)) (T .firsts (y % 4096) (omega arith)))
 
-    place-step : (y : ℕ) → (y ≡ x → ⊥) → y % 4096 ≡ b → placeOf M₂ y ≡ walk M₂ (y / 4096) (taken M) (next M₂ m)
-    unfolding placeOf
-    place-step y q e = rw (e, A .start) (walk-on M₂ (y / 4096) (taken M) m (λ r. omega arith) (λ r. q (omega (arith, A .here))))
+    row-step : (y : ℕ) → (y ≡ x → ⊥) → y % 4096 ≡ b → rowOf M₂ y ≡ rowFrom M₂ (y / 4096) (rowsTaken M) (nextRow M₂ m)
+    unfolding rowOf
+    row-step y q e = rw (e, A .start) (walk-on M₂ (y / 4096) (rowsTaken M) m (λ r. omega arith) (λ r. q (omega (arith, A .here))))
 
-    place-behind : (y : ℕ) → (y ≡ x → ⊥) → y % 4096 ≡ b → placeOf M₂ y ≡ placeOf M y
-    place-behind y q e =
+    row-behind : (y : ℕ) → (y ≡ x → ⊥) → y % 4096 ≡ b → rowOf M₂ y ≡ rowOf M y
+    row-behind y q e =
         let f = T .firsts (y % 4096) (omega arith) in
-        place-step y q e ∙ ap (walk M₂ (y / 4096) (taken M)) (A .link ∙ ap (first M) (sym e)) ∙ walk-kept (y / 4096) (taken M) (first M (y % 4096)) f
-        ∙ place-walk M T y (taken M) f
+        row-step y q e ∙ ap (rowFrom M₂ (y / 4096) (rowsTaken M)) (A .link ∙ ap (firstRow M) (sym e)) ∙ walk-kept (y / 4096) (rowsTaken M) (firstRow M (y % 4096)) f
+        ∙ row-walk M T y (rowsTaken M) f
 
-    place-others : (y : ℕ) → (y ≡ x → ⊥) → placeOf M₂ y ≡ placeOf M y
-    place-others y q = elim (ℕ-discrete (y % 4096) b) [
-      | yes e ↦ place-behind y q e
-      | no d ↦ place-apart y d
+    row-others : (y : ℕ) → (y ≡ x → ⊥) → rowOf M₂ y ≡ rowOf M y
+    row-others y q = elim (ℕ-discrete (y % 4096) b) [
+      | yes e ↦ row-behind y q e
+      | no d ↦ row-apart y d
     ]
 
     abbrev low-at : ℕ → ℕ
@@ -122,7 +122,7 @@ module _ (M : List ℕ) (T : Table M) (x v : ℕ) (name : x < 65536) (low : v < 
     low-new : low-at m ≡ b
     low-new = rw (eq-eqb m m refl) refl
 
-    low-old : (i : ℕ) → i ≤ taken M → low-at i ≡ T .low i
+    low-old : (i : ℕ) → i ≤ rowsTaken M → low-at i ≡ T .low i
     low-old i h = rw (ne-eqb i m (λ e. omega arith)) refl
 
     cell-small : (i : ℕ) → getD M₂ i 0 < 65536
@@ -160,36 +160,36 @@ module _ (M : List ℕ) (T : Table M) (x v : ℕ) (name : x < 65536) (low : v < 
             | yes e ↦ rw (e, A .start) low-new
             | no r ↦
                 let k = first-kept d r in
-                ap low-at k ∙ low-old (first M d) (T .firsts d h) ∙ T .low-first d h (omega arith)
+                ap low-at k ∙ low-old (firstRow M d) (T .firsts d h) ∙ T .low-first d h (omega arith)
           ];
           low-next = λ i q h r. elim (ℕ-discrete i m) [
             | yes e ↦ follows e r
             | no s ↦
-                let l : i ≤ taken M = omega (arith, A .many) in
+                let l : i ≤ rowsTaken M = omega (arith, A .many) in
                 let k = next-kept i q l in
-                ap low-at k ∙ low-old (next M i) (omega (arith, T .falls i q l)) ∙ T .low-next i q l (omega arith) ∙ sym (low-old i l)
+                ap low-at k ∙ low-old (nextRow M i) (omega (arith, T .falls i q l)) ∙ T .low-next i q l (omega arith) ∙ sym (low-old i l)
           ];
         }
       where
-        follows : {i : ℕ} → i ≡ m → 0 < next M₂ i → low-at (next M₂ i) ≡ low-at i
+        follows : {i : ℕ} → i ≡ m → 0 < nextRow M₂ i → low-at (nextRow M₂ i) ≡ low-at i
         follows e r =
-            let s : 0 < next M₂ m = rw e at r in
-            rw e (ap low-at (A .link) ∙ low-old (first M b) (T .firsts b (omega arith)) ∙ T .low-first b (omega arith) (omega (arith, A .link)) ∙ sym low-new)
+            let s : 0 < nextRow M₂ m = rw e at r in
+            rw e (ap low-at (A .link) ∙ low-old (firstRow M b) (T .firsts b (omega arith)) ∙ T .low-first b (omega arith) (omega (arith, A .link)) ∙ sym low-new)
 
     pub entered-new : Entered M M₂ x v
-    unfolding numberOf
+    unfolding numberUnder
     entered-new =
         record {
           table = table;
-          own = rw place-new (omega (arith, A .here));
-          others = λ y q. rw (place-others y q) (ap (λ (k : ℕ). k % 4096) (cell-kept (placeOf M y) (place-le M T y)));
+          own = rw row-new (omega (arith, A .here));
+          others = λ y q. rw (row-others y q) (ap (λ (k : ℕ). k % 4096) (cell-kept (rowOf M y) (row-le M T y)));
           many = omega (arith, A .many);
           again = λ p. absurd (p z);
         }
 
--- ---- the cells that a new place takes
+-- ---- the cells that a new row takes
 
-module _ (M : List ℕ) (x v n w : ℕ) (e : n ≡ suc (taken M)) (free : taken M < 4096) (size : length M ≡ 12290) (f : w ≡ first M (x % 4096)) where
+module _ (M : List ℕ) (x v n w : ℕ) (e : n ≡ suc (rowsTaken M)) (free : rowsTaken M < 4096) (size : length M ≡ 12290) (f : w ≡ firstRow M (x % 4096)) where
   abbrev B₁ : List ℕ
   B₁ = set M 4097 n
 
@@ -217,5 +217,5 @@ module _ (M : List ℕ) (x v n w : ℕ) (e : n ≡ suc (taken M)) (free : taken 
 
 -- ---- no change
 
-pub entered-same : (M : List ℕ) → Table M → (x : ℕ) → Entered M M x (numberOf M x)
+pub entered-same : (M : List ℕ) → Table M → (x : ℕ) → Entered M M x (numberUnder M x)
 entered-same M T x = record { table = T; own = refl; others = λ y n. refl; many = omega arith; again = λ n. refl }

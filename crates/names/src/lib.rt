@@ -1,23 +1,24 @@
 // A number below 4,096 for each name, in little room: a board has less than 4,096 leaves, and so less names, of the 65,536 that there are. Names with the same
 // twelve low binary digits, sixteen at most, are linked; a name is found by a walk along them.
 ghost use mathlib.Core.Path.{_≡_};
-ghost use Prim.Native.Nat.{_≤_, _<_};
+ghost use Prim.Native.Nat.{_<_};
+ghost use Rattle.general.specs.Lists.{blank};
 ghost use Rattle.names.specs.Table as table;
 
-// Where a name has its place, 0 for none, and its number.
+// Where a name has its row, 0 for none, and its number.
 pub struct Found {
-    pub place: usize,
+    pub row: usize,
     pub number: usize,
 }
 
 // A table without numbers. The array is made here and nowhere else, so that no other proof computes it.
 pub fn empty() -> [u16; 12290]
-    ensures { λ r. ⌜ r ≡ table.blank 12290 ⌝ }
+    ensures { λ r. ⌜ r ≡ blank 12290 ⌝ }
 {
     [0u16; 12290]
 }
 
-// The place and the number of a name.
+// The row and the number of a name.
 pub fn find(cells: &[u16], x: usize) -> Found
     requires { ⌜ (x < 65536) × table.Table (now cells) ⌝ }
     ensures { λ r. ⌜ table.Finds (now (cells .entry)) x r ⌝ }
@@ -27,29 +28,26 @@ pub fn find(cells: &[u16], x: usize) -> Found
         let m = cells[n] as usize;
         if m / 4096 == x / 4096 {
             return Found {
-                place: n,
+                row: n,
                 number: m % 4096,
             };
         }
         n = cells[4097 + n] as usize;
     }
-    Found {
-        place: 0,
-        number: 0,
-    }
+    Found { row: 0, number: 0 }
 }
 
 // The number of a name.
 pub fn number_of(cells: &[u16], x: usize) -> usize
     requires { ⌜ (x < 65536) × table.Table (now cells) ⌝ }
-    ensures { λ r. ⌜ r ≡ table.numberOf (now (cells .entry)) x ⌝ }
+    ensures { λ r. ⌜ r ≡ table.numberUnder (now (cells .entry)) x ⌝ }
 {
     find(cells, x).number
 }
 
-// A first place for a name that has none, with its number.
+// A first row for a name that has none, with its number.
 fn add(cells: &mut [u16], x: usize, v: usize)
-    requires { ⌜ (x < 65536) × (v < 4096) × (table.taken (now cells) < 4096) × table.Table (now cells) ⌝ }
+    requires { ⌜ (x < 65536) × (v < 4096) × (table.rowsTaken (now cells) < 4096) × table.Table (now cells) ⌝ }
     ensures { λ _. ⌜ table.Added (now (cells .entry)) (now (cells .exit)) x v ⌝ }
 {
     let b = 8194 + x % 4096;
@@ -60,14 +58,14 @@ fn add(cells: &mut [u16], x: usize, v: usize)
     cells[n] = (x / 4096 * 4096 + v) as u16;
 }
 
-// Enters the number of a name, whose place a search has found.
-pub fn enter(cells: &mut [u16], x: usize, place: usize, v: usize)
-    requires { ⌜ (x < 65536) × (v < 4096) × table.Table (now cells) × (place ≡ table.placeOf (now cells) x) × (place ≡ 0 → table.taken (now cells) < 4096) ⌝ }
+// Enters the number of a name, whose row a search has found.
+pub fn enter(cells: &mut [u16], x: usize, row: usize, v: usize)
+    requires { ⌜ (x < 65536) × (v < 4096) × table.Table (now cells) × (row ≡ table.rowOf (now cells) x) × (row ≡ 0 → table.rowsTaken (now cells) < 4096) ⌝ }
     ensures { λ _. ⌜ table.Entered (now (cells .entry)) (now (cells .exit)) x v ⌝ }
 {
-    if place == 0 {
+    if row == 0 {
         add(cells, x, v);
     } else {
-        cells[place] = (x / 4096 * 4096 + v) as u16;
+        cells[row] = (x / 4096 * 4096 + v) as u16;
     }
 }

@@ -19,16 +19,14 @@ use Rattle.calls.specs.declared.Refusal.{Refusal}
 use Rattle.calls.specs.declared.Refusal.the-variants.{Short}
 use Rattle.calls.specs.declared.Check.{Check}
 use Rattle.calls.specs.declared.Check.the-variants.{Clear, Refused}
+use Rattle.calls.specs.declared.Checked.{Checked}
 use Rattle.calls.specs.Refusals.{numberOf, andThen, openCheck, slotCheck, changeCheck, positionCheck, addCheck, removeCheck}
 use Rattle.calls.specs.Records.{driveAt}
 use Rattle.calls.specs.Answers.{answered, answeredWith, beside}
 use Rattle.calls.specs.Results.{ifClear, changeBy, admittedBy, addedIdle, removedIdle}
-use Rattle.calls.proofs.Laws.{Sized, open-clear, first-clear, then-clear, slot-parts, add-clear, remove-clear, add-keeps, remove-keeps, refuse-clear}
-use Rattle.sheets.specs.declared.Loaded.{Loaded}
-use Rattle.sheets.specs.declared.Loading.the-variants as loading
-use Rattle.sheets.specs.declared.Loading.{Loading}
+use Rattle.calls.proofs.Laws.{Sized, open-clear, first-clear, then-clear, slot-parts, add-clear, remove-clear, add-keeps, remove-keeps, refuse-clear, slot-long}
 use Rattle.sheets.specs.Forms as sheets
-use Rattle.sheets.specs.Forms.{Form, startCheck, loadingBy, loadingAnswer}
+use Rattle.sheets.specs.Forms.{Form, headCheck}
 use Rattle.waiting.specs.declared.Order.{Order}
 use Rattle.waiting.specs.Carrying.{carriedAll}
 use Rattle.waiting.specs.Layout.{tooShort, answersIn, ordersIn, orderAt, waiting, counted, answeredAt, full, taken, emptied}
@@ -36,8 +34,9 @@ use Rattle.waiting.proofs.Laws.{stateFrom, listFrom, state-more, list-more, sta
 use Rattle.orders.specs.declared.Way.the-variants as way
 use Rattle.orders.specs.Answers.{orderingAnswer, made, listed}
 use Rattle.orders.specs.Checks.{longCheck, lentCheck, boundsCheck, readingCheck, shortBy, shortList, wayBy}
-use Rattle.orders.specs.Results.{carried, carriedAnswer, carriedBoard, doing, saying, takenAnswer, ranBoard, ranList, boardIf, boardThen, emptiedBy}
+use Rattle.orders.specs.Results.{carried, carriedAnswer, carriedBoard, doing, saying, takenAnswer, ranBoard, ranList, boardIf, boardThen, changedBy, changedAnswerBy}
 use Rattle.orders.specs.Promises.{LoadsAs}
+use Rattle.orders.specs.declared.Way.{Way}
 
 long-clear : (n : ℕ) → longCheck n ≡ Clear → 259 ≤ n
 long-clear n e = ltb-false n 259 (refuse-clear (tooShort n) Short Clear e .0)
@@ -68,8 +67,7 @@ module _ (d : Drive) (B : List ℕ) (n : ℕ) (e : boundsCheck d B n ≡ Clear) 
 
   pub bounds-slot : slotCheck d B ≡ Clear
   unfolding boundsCheck
-  bounds-slot =
-      slot-parts d B
+  bounds-slot = slot-parts d B
       ∙ rw (lent-open (d .capacity) B n bounds-lent) (then-clear (lentCheck (d .capacity) B n) (positionCheck (d .capacity) (d .position)) e)
 
   pub bounds-vouch : (slotCheck d B ≡ Clear) × (259 ≤ n)
@@ -102,6 +100,11 @@ made-says d B o = by-bool (eqb (o .kind) 1)
 
 pub taken-says : (L : List ℕ) → orderingAnswer (listed (taken L)) ≡ takenAnswer L
 taken-says L = by-bool (full L) (λ t. rw t refl) (λ f. rw f refl)
+
+pub change-says : (k : Way) (d : Drive) (B L : List ℕ) (o : Order) → orderingAnswer (changedBy k d B L o .answer) ≡ changedAnswerBy k d B L o
+change-says (way.Refused r) d B L o = refl
+change-says way.Wait d B L o = taken-says L
+change-says way.Now d B L o = made-says d B o
 
 -- ---- an order leaves the board's length, and what the checks find, as they were
 
@@ -165,13 +168,9 @@ all-length d B [] = refl
 all-length d B (o ∷ os) = all-length d (carriedBoard d B o) os ∙ carried-length d B o
 
 -- slot's own checks see no more of the board than its length
-slot-same : (d : Drive) (B D : List ℕ) → length D ≡ length B → slotCheck d B ≡ Clear → slotCheck d D ≡ Clear
-unfolding slotCheck
-slot-same d B D e h = rw e h
-
 pub if-slot : (begins : Bool) (d : Drive) (B L : List ℕ) → slotCheck d B ≡ Clear → slotCheck d (boardIf begins d B L) ≡ Clear
 unfolding ranBoard
-if-slot true d B L e = slot-same d B (ranBoard d B L) (all-length d B (waiting L)) e
+if-slot true d B L e = slot-long d B (ranBoard d B L) (all-length d B (waiting L)) e
 if-slot false d B L e = e
 
 pub then-slot : (d : Drive) (B L : List ℕ) (n : ℕ) → boundsCheck d B n ≡ Clear → slotCheck d (boardThen d B L) ≡ Clear
@@ -193,22 +192,10 @@ then-short : (k : Check) → andThen k (Refused Short) ≡ Refused (shortBy k)
 then-short Clear = refl
 then-short (Refused r) = refl
 
--- what was read without the list, in number and values, and the list after it
-loading-told : (k : Check) → loadingAnswer (loadingBy k) ≡ answered k []
-loading-told Clear = refl
-loading-told (Refused r) = refl
-
-list-told : (k : Check) (L : List ℕ) → emptiedBy (loadingBy k) L ≡ ifClear k (emptied L) L
-list-told Clear L = refl
-list-told (Refused r) L = refl
-
-pub read-rebuilt : (x : Loaded) (a : Loading) → x .answer ≡ a → record { drive = x .drive; answer = a } ≡ x
-read-rebuilt x a e = ap (λ (b : Loading). record { drive = x .drive; answer = b }) (sym e)
-
 module _ (F : Form) (s B L : List ℕ) where
   short-check : length L < 259 → readingCheck F s B (length L) ≡ Refused (shortList s B)
   unfolding readingCheck
-  short-check h = rw (lt-ltb (length L) 259 h) (then-short (startCheck s B))
+  short-check h = rw (lt-ltb (length L) 259 h) (then-short (headCheck s B))
 
   long-check : 259 ≤ length L → readingCheck F s B (length L) ≡ sheets.readingCheck F s B
   unfolding readingCheck sheets.readingCheck
@@ -222,12 +209,10 @@ module _ (F : Form) (s B L : List ℕ) where
   ]
 
   -- the list is too short
-  pub read-short : (r : Refusal) → r ≡ shortList s B → length L < 259 → LoadsAs F s B L (record { drive = driveAt 0 0; answer = loading.Refused r }) B L
+  pub read-short : (r : Refusal) → r ≡ shortList s B → length L < 259 → LoadsAs F s B L (record { drive = driveAt 0 0; answer = Refused r }) B L
   read-short r e h = let k = short-check h ∙ ap (λ (x : Refusal). Refused x) (sym e) in rw k (refl, refl, refl, refl)
 
   -- else the board is read as without a list, and the list emptied if that is done
-  pub read-takes : (x y : Loaded) (E M : List ℕ) → 259 ≤ length L → x ≡ sheets.loadedAs F s B → E ≡ sheets.loadedBoardAs F s B → y ≡ x → M ≡ emptiedBy (x .answer) L
+  pub read-takes : (x y : Checked) (E M : List ℕ) → 259 ≤ length L → x ≡ sheets.loadedAs F s B → E ≡ sheets.loadedBoardAs F s B → y ≡ x → M ≡ ifClear (x .answer) (emptied L) L
       → LoadsAs F s B L y E M
-  read-takes x y E M long is left same list =
-      let k = sheets.readingCheck F s B in
-      rw (long-check long, same, is) (refl, loading-told k, left, list ∙ rw is (list-told k L))
+  read-takes x y E M long is left same list = rw (long-check long, same, is) (refl, refl, left, list ∙ rw is refl)

@@ -1,6 +1,5 @@
 -- The laws of the calls with the list that upper crates cite: no second answer fits; what a refusal, a wait and a full list leave as it was; when the list is run;
--- what is known once the first checks are clear, and what a change says in numbers.
--- Assumes nothing.
+-- what is known once the first checks are clear, and what a change says in numbers. Assumes nothing.
 use mathlib.Core.Path.{_≡_, refl, sym, _∙_}
 use mathlib.Core.Bool.{Bool, true, false}
 use mathlib.Core.List.{List, _++_}
@@ -14,15 +13,13 @@ use Rattle.calls.specs.declared.Drive.{Drive}
 use Rattle.calls.specs.declared.Refusal.{Refusal}
 use Rattle.calls.specs.declared.Check.{Check}
 use Rattle.calls.specs.declared.Check.the-variants.{Clear, Refused}
+use Rattle.calls.specs.declared.Checked.{Checked}
 use Rattle.calls.specs.declared.Change.{Change}
 use Rattle.calls.specs.declared.Change.the-variants as change
-use Rattle.calls.specs.declared.Opened.{Opened}
 use Rattle.calls.specs.declared.Served.{Served}
 use Rattle.calls.specs.Records.{driveAt}
 use Rattle.calls.specs.Refusals.{openCheck, slotCheck, positionCheck}
-use Rattle.calls.specs.Results.{ifClear}
-use Rattle.calls.proofs.Laws.{first-clear, then-clear, slot-parts}
-use Rattle.sheets.specs.declared.Loaded.{Loaded}
+use Rattle.calls.proofs.Laws.{first-clear, then-clear, slot-parts, either-same}
 use Rattle.waiting.specs.declared.Order.{Order}
 use Rattle.sheets.specs.Sheet.{capacityIn}
 use Rattle.sheets.specs.Entries.{positionIn, spelled}
@@ -41,7 +38,7 @@ use Rattle.orders.specs.Results.{carried, carriedAnswer, saying, changed
 use Rattle.orders.specs.Promises.{Opens, LoadsAs, Loads, LoadsPieces, Takes, Orders, ServesBy, Serves}
 -- ---- what is known once the first checks are clear, what a change says, and that orders keep the board's length
 
-pub use Rattle.orders.proofs.Changing.{lent-open, lent-long, bounds-slot, bounds-long, bounds-vouch, way-wait, made-says, taken-says, carried-length, all-length, if-slot, then-slot, reading-accepts}
+pub use Rattle.orders.proofs.Changing.{lent-open, lent-long, bounds-slot, bounds-long, bounds-vouch, way-wait, made-says, taken-says, change-says, carried-length, all-length, if-slot, then-slot, reading-accepts}
 
 pub bounds-clear : (d : Drive) (B : List ℕ) (n : ℕ) → slotCheck d B ≡ Clear → 259 ≤ n → boundsCheck d B n ≡ Clear
 unfolding boundsCheck lentCheck
@@ -61,16 +58,16 @@ kept-says d B o = kept-ordering (carried d B o) ∙ made-says d B o
 
 -- ---- no second answer, board or list fits
 
-pub open-unique : (C : ℕ) (B L : List ℕ) {r s : Opened} {E F G H : List ℕ} → Opens C B L r E F → Opens C B L s G H → (r ≡ s) × (E ≡ G) × (F ≡ H)
+pub open-unique : (C : ℕ) (B L : List ℕ) {r s : Checked} {E F G H : List ℕ} → Opens C B L r E F → Opens C B L s G H → (r ≡ s) × (E ≡ G) × (F ≡ H)
 open-unique C B L p q = (unique (p .0) (q .0), unique (p .2) (q .2), unique (p .3) (q .3))
 
-loads-unique : (form : Form) (S B L : List ℕ) {r s : Loaded} {E F G H : List ℕ} → LoadsAs form S B L r E F → LoadsAs form S B L s G H → (r ≡ s) × (E ≡ G) × (F ≡ H)
+loads-unique : (form : Form) (S B L : List ℕ) {r s : Checked} {E F G H : List ℕ} → LoadsAs form S B L r E F → LoadsAs form S B L s G H → (r ≡ s) × (E ≡ G) × (F ≡ H)
 loads-unique form S B L p q = (unique (p .0) (q .0), unique (p .2) (q .2), unique (p .3) (q .3))
 
-pub read-unique : (S B L : List ℕ) {r s : Loaded} {E F G H : List ℕ} → Loads S B L r E F → Loads S B L s G H → (r ≡ s) × (E ≡ G) × (F ≡ H)
+pub read-unique : (S B L : List ℕ) {r s : Checked} {E F G H : List ℕ} → Loads S B L r E F → Loads S B L s G H → (r ≡ s) × (E ≡ G) × (F ≡ H)
 read-unique = loads-unique leafForm
 
-pub read-pieces-unique : (S B L : List ℕ) {r s : Loaded} {E F G H : List ℕ} → LoadsPieces S B L r E F → LoadsPieces S B L s G H → (r ≡ s) × (E ≡ G) × (F ≡ H)
+pub read-pieces-unique : (S B L : List ℕ) {r s : Checked} {E F G H : List ℕ} → LoadsPieces S B L r E F → LoadsPieces S B L s G H → (r ≡ s) × (E ≡ G) × (F ≡ H)
 read-pieces-unique = loads-unique pieceForm
 
 pub change-unique : (d : Drive) (B L : List ℕ) (o : Order) {r s : Ordered} {E F G H : List ℕ} → Orders d B L o r E F → Orders d B L o s G H → (r ≡ s) × (E ≡ G) × (F ≡ H)
@@ -135,10 +132,6 @@ module _ (d : Drive) (B L : List ℕ) where
   still-list : (d .position ≡ 1 → ⊥) → listThen d B L ≡ L
   unfolding listThen
   still-list n = rw (ne-eqb (d .position) 1 n) refl
-
-  either-same : (k : Check) (X : List ℕ) → ifClear k X X ≡ X
-  either-same Clear X = refl
-  either-same (Refused r) X = refl
 
   -- Away from the start of a round a slot changes neither the board nor the list.
   pub slot-midround : (d .position ≡ 1 → ⊥) → (servedBoard d B L ≡ B) × (servedList d B L ≡ L)

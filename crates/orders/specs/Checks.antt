@@ -14,7 +14,7 @@ use Rattle.calls.specs.declared.Check.{Check}
 use Rattle.calls.specs.declared.Check.the-variants.{Clear, Refused}
 use Rattle.calls.specs.Refusals.{refuseIf, andThen, openCheck, slotCheck, positionCheck}
 use Rattle.sheets.specs.Sheet.{capacityIn}
-use Rattle.sheets.specs.Forms.{Form, startCheck, heldCheck}
+use Rattle.sheets.specs.Forms.{Form, headCheck, sheetCheck}
 use Rattle.sheets.specs.Results.{leafForm}
 use Rattle.waiting.specs.declared.Order.{Order}
 use Rattle.waiting.specs.Layout.{tooShort, ordersIn}
@@ -36,7 +36,7 @@ boundsCheck d B n = andThen (lentCheck (d .capacity) B n) (positionCheck (d .cap
 -- read of a form of sheet, in its own order: under 512 bytes, 12; 1, and 2 for the board or the list; anything wrong with length or layout, 12; the sheet's board
 -- not good, 5.
 unfoldable pub readingCheck : Form → List ℕ → List ℕ → ℕ → Check
-readingCheck F s B n = andThen (startCheck s B) (andThen (longCheck n) (heldCheck F (capacityIn s) s))
+readingCheck F s B n = andThen (headCheck s B) (andThen (longCheck n) (sheetCheck F (capacityIn s) s))
 
 abbrev pub readCheck : List ℕ → List ℕ → ℕ → Check
 readCheck = readingCheck leafForm
@@ -47,7 +47,7 @@ shortBy Clear = Short
 shortBy (Refused r) = r
 
 abbrev pub shortList : List ℕ → List ℕ → Refusal
-shortList s B = shortBy (startCheck s B)
+shortList s B = shortBy (headCheck s B)
 
 -- An order that is to wait: 6, 7, which are of its words alone, and with them 5. A remove has no weight.
 abbrev pub wordsCheck : Order → Check

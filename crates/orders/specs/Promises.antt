@@ -7,12 +7,11 @@ use Prim.Native.Nat.{ℕ}
 use lib.ListN.{length}
 use Rattle.calls.specs.declared.Drive.{Drive}
 use Rattle.calls.specs.declared.Check.{Check}
-use Rattle.calls.specs.declared.Opened.{Opened}
+use Rattle.calls.specs.declared.Checked.{Checked}
 use Rattle.calls.specs.declared.Served.{Served}
-use Rattle.calls.specs.Answers.{openingAnswer, servingAnswer}
+use Rattle.calls.specs.Answers.{checkAnswer, servingAnswer}
 use Rattle.calls.specs.Results.{ifClear}
-use Rattle.sheets.specs.declared.Loaded.{Loaded}
-use Rattle.sheets.specs.Forms.{Form, loadingAnswer}
+use Rattle.sheets.specs.Forms.{Form}
 use Rattle.sheets.specs.Results.{leafForm, pieceForm}
 use Rattle.waiting.specs.declared.Order.{Order}
 use Rattle.waiting.specs.Layout.{takenList}
@@ -21,20 +20,20 @@ use Rattle.orders.specs.declared.Way.{Way}
 use Rattle.orders.specs.Answers.{orderingAnswer}
 use Rattle.orders.specs.Results.{carriedBoard, changedBy, changedAnswerBy, boardBy, listBy, boardIf, listIf, servedBy, servedAnswerBy, changed, changedAnswer, changedBoard, changedList, served, servedAnswer, servedBoard, servedList, opened, openedAnswer, openedBoard, openedList, loadedAs, loadedAnswerAs, loadedBoardAs, loadedListAs}
 
-abbrev pub Opens : ℕ → List ℕ → List ℕ → Opened → List ℕ → List ℕ → Type 0
+abbrev pub Opens : ℕ → List ℕ → List ℕ → Checked → List ℕ → List ℕ → Type 0
 Opens C B L r E F =
-    (r ≡ opened C B (length L)) × (openingAnswer (r .answer) ≡ openedAnswer C B (length L)) × (E ≡ openedBoard C B (length L)) × (F ≡ openedList C B L)
+    (r ≡ opened C B (length L)) × (checkAnswer (r .answer) ≡ openedAnswer C B (length L)) × (E ≡ openedBoard C B (length L)) × (F ≡ openedList C B L)
 
-abbrev pub LoadsAs : Form → List ℕ → List ℕ → List ℕ → Loaded → List ℕ → List ℕ → Type 0
+abbrev pub LoadsAs : Form → List ℕ → List ℕ → List ℕ → Checked → List ℕ → List ℕ → Type 0
 LoadsAs form s B L r E F =
-    (r ≡ loadedAs form s B (length L)) × (loadingAnswer (r .answer) ≡ loadedAnswerAs form s B (length L))
+    (r ≡ loadedAs form s B (length L)) × (checkAnswer (r .answer) ≡ loadedAnswerAs form s B (length L))
     × (E ≡ loadedBoardAs form s B (length L)) × (F ≡ loadedListAs form s B L)
 
 -- A sheet of leaves, and one of pieces, which is read at the position that it has.
-abbrev pub Loads : List ℕ → List ℕ → List ℕ → Loaded → List ℕ → List ℕ → Type 0
+abbrev pub Loads : List ℕ → List ℕ → List ℕ → Checked → List ℕ → List ℕ → Type 0
 Loads = LoadsAs leafForm
 
-abbrev pub LoadsPieces : List ℕ → List ℕ → List ℕ → Loaded → List ℕ → List ℕ → Type 0
+abbrev pub LoadsPieces : List ℕ → List ℕ → List ℕ → Checked → List ℕ → List ℕ → Type 0
 LoadsPieces = LoadsAs pieceForm
 
 -- A change that is taken in the way k, and one of one drive.

@@ -8,19 +8,15 @@ use lib.ListN.{length, drop}
 use Rattle.calls.specs.declared.Drive.{Drive}
 use Rattle.calls.specs.declared.Refusal.the-variants.{Weight}
 use Rattle.calls.specs.declared.Check.{Check}
+use Rattle.calls.specs.declared.Checked.{Checked}
 use Rattle.calls.specs.declared.Change.{Change}
 use Rattle.calls.specs.declared.Change.the-variants as change
-use Rattle.calls.specs.declared.Opened.{Opened}
 use Rattle.calls.specs.declared.Served.{Served}
-use Rattle.calls.specs.Records.{driveAt}
 use Rattle.calls.specs.Refusals.{numberOf}
-use Rattle.calls.specs.Answers.{Answer, answered}
+use Rattle.calls.specs.Answers.{Answer, answered, checkAnswer}
 use Rattle.calls.specs.Results as plain
-use Rattle.sheets.specs.declared.Loaded.{Loaded}
-use Rattle.sheets.specs.declared.Loading.{Loading}
-use Rattle.sheets.specs.declared.Loading.the-variants as loading
 use Rattle.sheets.specs.Sheet.{capacityIn}
-use Rattle.sheets.specs.Forms.{Form, loadingBy}
+use Rattle.sheets.specs.Forms.{Form}
 use Rattle.sheets.specs.Results.{leafForm}
 use Rattle.waiting.specs.declared.Order.{Order}
 use Rattle.waiting.specs.declared.Outcome.{Outcome}
@@ -151,11 +147,11 @@ servedList d B L = plain.ifClear (boundsCheck d B (length L)) (listThen d B L) L
 
 -- ---- open and read: done, they empty the list
 
-abbrev pub opened : ℕ → List ℕ → ℕ → Opened
-opened C B n = record { drive = plain.ifClear (lentCheck C B n) (driveAt C 1) (driveAt 0 0); answer = plain.openingBy (lentCheck C B n) }
+abbrev pub opened : ℕ → List ℕ → ℕ → Checked
+opened C B n = plain.setBy (lentCheck C B n) C 1
 
 abbrev pub openedAnswer : ℕ → List ℕ → ℕ → Answer
-openedAnswer C B n = answered (lentCheck C B n) []
+openedAnswer C B n = checkAnswer (lentCheck C B n)
 
 abbrev pub openedBoard : ℕ → List ℕ → ℕ → List ℕ
 openedBoard C B n = plain.ifClear (lentCheck C B n) (plain.idleBoard C B) B
@@ -163,12 +159,11 @@ openedBoard C B n = plain.ifClear (lentCheck C B n) (plain.idleBoard C B) B
 abbrev pub openedList : ℕ → List ℕ → List ℕ → List ℕ
 openedList C B L = plain.ifClear (lentCheck C B (length L)) (emptied L) L
 
-abbrev pub loadedAs : Form → List ℕ → List ℕ → ℕ → Loaded
-loadedAs F s B n =
-    record { drive = plain.ifClear (readingCheck F s B n) (driveAt (capacityIn s) (F .position s)) (driveAt 0 0); answer = loadingBy (readingCheck F s B n) }
+abbrev pub loadedAs : Form → List ℕ → List ℕ → ℕ → Checked
+loadedAs F s B n = plain.setBy (readingCheck F s B n) (capacityIn s) (F .position s)
 
 abbrev pub loadedAnswerAs : Form → List ℕ → List ℕ → ℕ → Answer
-loadedAnswerAs F s B n = answered (readingCheck F s B n) []
+loadedAnswerAs F s B n = checkAnswer (readingCheck F s B n)
 
 abbrev pub loadedBoardAs : Form → List ℕ → List ℕ → ℕ → List ℕ
 loadedBoardAs F s B n = plain.ifClear (readingCheck F s B n) (F .leaves (capacityIn s) s ++ drop (capacityIn s) B) B
@@ -177,7 +172,7 @@ abbrev pub loadedListAs : Form → List ℕ → List ℕ → List ℕ → List �
 loadedListAs F s B L = plain.ifClear (readingCheck F s B (length L)) (emptied L) L
 
 -- of a sheet of leaves, at p = 1
-abbrev pub loaded : List ℕ → List ℕ → ℕ → Loaded
+abbrev pub loaded : List ℕ → List ℕ → ℕ → Checked
 loaded = loadedAs leafForm
 
 abbrev pub loadedAnswer : List ℕ → List ℕ → ℕ → Answer
@@ -188,8 +183,3 @@ loadedBoard = loadedBoardAs leafForm
 
 abbrev pub loadedList : List ℕ → List ℕ → List ℕ → List ℕ
 loadedList = loadedListAs leafForm
-
--- The list after a read without it, by what that answers.
-abbrev pub emptiedBy : Loading → List ℕ → List ℕ
-emptiedBy loading.Done L = emptied L
-emptiedBy (loading.Refused r) L = L

@@ -1,9 +1,12 @@
-// The calls on one drive's slot board with a waiting list: open, read, add, remove, slot. A change waits for the start of a round; fetch is the list's own.
+// The calls on one drive's slot board with a waiting list: open, read of each form of sheet, add, remove, slot. A change waits for the start of a
+// round; fetch is the list's own.
 ghost use mathlib.Core.Path.{_≡_};
 ghost use Prim.Native.Nat.{_-_, _≤_, _<_};
 ghost use lib.ListN.{length};
 ghost use Rattle.calls.specs.Refusals as refusals;
+ghost use Rattle.calls.specs.Results.{ifClear};
 ghost use Rattle.waiting.specs.Layout as layout;
+ghost use Rattle.waiting.specs.Layout.{emptied};
 ghost use Rattle.waiting.proofs.Laws as list_laws;
 ghost use Rattle.orders.specs.Answers as answers;
 ghost use Rattle.orders.specs.Checks as checks;
@@ -11,14 +14,11 @@ ghost use Rattle.orders.specs.Results as results;
 ghost use Rattle.orders.specs.Promises as promises;
 use calls::Change;
 use calls::Check;
+use calls::Checked;
 use calls::Drive;
-use calls::Opened;
-use calls::Opening;
 use calls::Refusal;
 use calls::Served;
 use calls::Serving;
-use sheets::Loaded;
-use sheets::Loading;
 use waiting::Order;
 use waiting::Outcome;
 use waiting::Taking;
@@ -350,13 +350,13 @@ pub fn slot(drive: Drive, board: &mut [u16], list: &mut [u64]) -> Served
 }
 
 // Opens a board, and empties the list.
-pub fn open(capacity: u16, board: &mut [u16], list: &mut [u64]) -> Opened
+pub fn open(capacity: u16, board: &mut [u16], list: &mut [u64]) -> Checked
     ensures { λ r. ⌜ promises.Opens capacity (now (board .entry)) (now (list .entry)) r (now (board .exit)) (now (list .exit)) ⌝ }
 {
     match check_lent(capacity as usize, board, list.len()) {
-        Check::Refused(r) => Opened {
+        Check::Refused(r) => Checked {
             drive: Drive::new(0, 0),
-            answer: Opening::Refused(r),
+            answer: Check::Refused(r),
         },
         Check::Clear => {
             waiting::empty(list);
@@ -369,55 +369,48 @@ pub fn open(capacity: u16, board: &mut [u16], list: &mut [u64]) -> Opened
 fn short_list(sheet: &[u8], board: &[u16]) -> Refusal
     ensures { λ r. ⌜ r ≡ checks.shortList (now (sheet .entry)) (now (board .entry)) ⌝ }
 {
-    match sheets::check_start(sheet, board) {
+    match sheets::check_head(sheet, board) {
         Check::Refused(r) => r,
         Check::Clear => Refusal::Short,
     }
 }
 
 // What was read without the list; where that is done the list is emptied.
-fn empty_after(loaded: Loaded, list: &mut [u64]) -> Loaded
+fn empty_after(loaded: Checked, list: &mut [u64]) -> Checked
     requires { ⌜ 259 ≤ length (now list) ⌝ }
-    ensures { λ r. ⌜ (r ≡ loaded) × (now (list .exit) ≡ results.emptiedBy (loaded .answer) (now (list .entry))) ⌝ }
+    ensures { λ r. ⌜ (r ≡ loaded) × (now (list .exit) ≡ ifClear (loaded .answer) (emptied (now (list .entry))) (now (list .entry))) ⌝ }
 {
-    let drive = loaded.drive;
     let answer = loaded.answer;
     match answer {
-        Loading::Refused(r) => Loaded {
-            drive,
-            answer: Loading::Refused(r),
-        },
-        Loading::Done => {
+        Check::Refused(_) => loaded,
+        Check::Clear => {
             waiting::empty(list);
-            Loaded {
-                drive,
-                answer: Loading::Done,
-            }
+            loaded
         }
     }
 }
 
 // Reads a sheet, and empties the list.
-pub fn read(sheet: &[u8], board: &mut [u16], list: &mut [u64]) -> Loaded
+pub fn read(sheet: &[u8], board: &mut [u16], list: &mut [u64]) -> Checked
     ensures { λ r. ⌜ promises.Loads (now (sheet .entry)) (now (board .entry)) (now (list .entry)) r (now (board .exit)) (now (list .exit)) ⌝ }
 {
     if list.len() < waiting::LENGTH {
-        return Loaded {
+        return Checked {
             drive: Drive::new(0, 0),
-            answer: Loading::Refused(short_list(sheet, board)),
+            answer: Check::Refused(short_list(sheet, board)),
         };
     }
     empty_after(sheets::read(sheet, board), list)
 }
 
 // Reads a sheet of pieces, at the position that it has, and empties the list.
-pub fn read_pieces(sheet: &[u8], board: &mut [u16], list: &mut [u64]) -> Loaded
+pub fn read_pieces(sheet: &[u8], board: &mut [u16], list: &mut [u64]) -> Checked
     ensures { λ r. ⌜ promises.LoadsPieces (now (sheet .entry)) (now (board .entry)) (now (list .entry)) r (now (board .exit)) (now (list .exit)) ⌝ }
 {
     if list.len() < waiting::LENGTH {
-        return Loaded {
+        return Checked {
             drive: Drive::new(0, 0),
-            answer: Loading::Refused(short_list(sheet, board)),
+            answer: Check::Refused(short_list(sheet, board)),
         };
     }
     empty_after(sheets::read_pieces(sheet, board), list)

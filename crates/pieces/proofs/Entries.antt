@@ -1,8 +1,8 @@
 -- The pieces of a block that streams own: a run entered in a list, and a block's list by its halves. Assumes nothing.
-use mathlib.Core.Path.{_≡_, refl, sym, ap, _∙_}
+use mathlib.Core.Path.{_≡_, refl, sym, _∙_}
 use mathlib.Core.Bool.{true, false}
 use mathlib.Core.List.{List, [], _∷_, _++_}
-use Prim.Native.Nat.{ℕ, zero, suc, _+_, _*_, _^_, _≤_, _<_}
+use Prim.Native.Nat.{ℕ, zero, suc, _+_, _-_, _*_, _^_, _≤_, _<_}
 use native.Mathlib.Nat.{add-zero, two-pow-succ}
 use native.Mathlib.Numerals.{add-one}
 use native.Mathlib.Omega.{arith}
@@ -12,13 +12,13 @@ use lib.ListN.{length, getD, set, length-append}
 use lib.Pow.{pow-pos}
 use lib.Seq.{sets}
 use borrow.Author.Tests.{lt-ltb, le-ltb, eq-eqb, ne-eqb}
-use Rattle.general.proofs.Laws.{by-bool, clash}
+use Rattle.general.proofs.Laws.{by-bool, never, clash}
 use Rattle.pieces.specs.Board.{whole}
 use Rattle.pieces.specs.Halving.{countFrom}
 use Rattle.pieces.specs.Listing.{entry, named}
 use Rattle.pieces.proofs.Blocks.{whole-elim, whole-intro}
 use Rattle.pieces.proofs.Replace.{whole-local}
-use Rattle.pieces.proofs.Steps.{count-whole}
+use Rattle.pieces.proofs.LoopSteps.{count-whole}
 
 -- ---- the test of a run by a count
 
@@ -28,9 +28,12 @@ count-full B x a zero h = refl
 count-full B x a (suc n) h =
     rw (eq-eqb (getD B (a + n) 0) x (h n (omega arith))) (omega (arith, count-full B x a n (λ i l. h i (omega arith))))
 
+-- A block whose last leaf holds another name is no run.
+pub whole-last : (C : ℕ) (B : List ℕ) (x a l z : ℕ) → z ≡ 2 ^ l → (getD B (a + z - 1) 0 ≡ x → ⊥) → whole C B x a l ≡ false
+whole-last C B x a l z e n = never (whole C B x a l) (λ t. n (whole-elim C B x a l t (a + z - 1) (omega (arith, pow-pos l)) (omega (arith, pow-pos l)) .1))
+
 pub whole-counted : (C : ℕ) (B : List ℕ) (x a l z n : ℕ) → z ≡ 2 ^ l → a + z ≤ C → n ≡ countFrom B x a z → eqb n z ≡ whole C B x a l
-whole-counted C B x a l z n e h c =
-    by-bool (whole C B x a l)
+whole-counted C B x a l z n e h c = by-bool (whole C B x a l)
     (λ t.
     let f : n ≡ z = c ∙ count-full B x a z (λ i p. whole-elim C B x a l t (a + i) (omega arith) (omega arith) .1) in
     eq-eqb n z f ∙ sym t)
@@ -48,13 +51,6 @@ run-entered L zero a l n e h = absurd (e refl)
 run-entered L (suc x) a l n e h =
     let two : n + 2 ≡ suc (suc n) = omega arith in
     (refl, omega arith, rw (two, add-one n) refl)
-
--- Numbers stored one list after the other.
-pub stores : (L : List ℕ) (i : ℕ) (xs ys : List ℕ) → sets (sets L i xs) (i + length xs) ys ≡ sets L i (xs ++ ys)
-stores L i [] ys = ap (λ (k : ℕ). sets L k ys) (add-zero i)
-stores L i (x ∷ xs) ys =
-    let e : i + suc (length xs) ≡ suc i + length xs = omega arith in
-    ap (λ (k : ℕ). sets (sets (set L i x) (suc i) xs) k ys) e ∙ stores (set L i x) (suc i) xs ys
 
 -- ---- a block listed
 

@@ -1,6 +1,5 @@
 -- The laws of a board that upper crates cite: that pieces cover every leaf once, what placing and removing give, how many pieces a name has, and what holds of a
--- name because it holds of its pieces.
--- Assumes nothing.
+-- name because it holds of its pieces. Assumes nothing.
 use mathlib.Core.Path.{_≡_, sym, ap, _∙_}
 use mathlib.Core.Bool.{true}
 use mathlib.Core.List.{List}
@@ -8,7 +7,7 @@ use Prim.Native.Nat.{ℕ, suc, _+_, _*_, _/_, _%_, _^_, _≤_, _<_}
 use native.Mathlib.Omega.{arith}
 use lib.Count.{ones}
 use lib.ListN.{getD, length}
-use Rattle.pieces.specs.Board.{pieces, nth, good, Good, sum, weight, number}
+use Rattle.pieces.specs.Board.{pieces, nth, good, Good, sum, weight, pieceCount}
 use Rattle.pieces.specs.Literal.{IsPiece, LiesIn}
 use Rattle.pieces.specs.Placing.{fill}
 use Rattle.pieces.specs.Tidying.{Removable, removed}
@@ -17,8 +16,8 @@ pub use Rattle.pieces.proofs.Examples.{worked}
 -- The board after an add that passes its checks.
 pub use Rattle.pieces.proofs.AfterAdd.{placed-length, placed-good, placed-weight, placed-idle, placed-others, placed-leaf, placed-beyond}
 -- Streams added to idle leaves one after the other: that each can be added in its turn, and what they make of the board. `Apart` says that each has a name of
--- its own and a weight; `listed` is what they give a name, `total` what they take in all.
-unfoldable pub use Rattle.pieces.proofs.Streams.{Apart, listed, total}
+-- its own and a weight; `heldOf` is what they give a name, `total` what they take in all.
+unfoldable pub use Rattle.pieces.proofs.Streams.{Apart}
 pub use Rattle.pieces.proofs.Layouts.{idle-placeable, idle-laid}
 -- A board laid out afresh: its entries, that it is good, what each name holds, that each stream can be added in its turn, that it hangs on the weights alone.
 pub use Rattle.pieces.proofs.Layouts.{fresh-length, fresh-beyond, fresh-good, fresh-weights, fresh-placeable, fresh-same, fresh-again}
@@ -69,7 +68,7 @@ module _ (C : ℕ) (few : C ≤ 4095) (B : List ℕ) where
     weight-sizes = weights.weight-total C B x (omega arith) ∙ weights.leaves-sum C B x 0 12
 
 -- A stream of weight w on a good board has as many pieces as w has ones.
-pub pieces-ones : (C : ℕ) (B : List ℕ) (x : ℕ) → C ≤ 4095 → good C B ≡ true → number C B x ≡ ones (weight C B x)
+pub pieces-ones : (C : ℕ) (B : List ℕ) (x : ℕ) → C ≤ 4095 → good C B ≡ true → pieceCount C B x ≡ ones (weight C B x)
 pieces-ones C B x few sound = weights.good-number C B (good-elim C B sound) x ∙ ap ones (sym (weights.weight-total C B x (omega arith)))
 
 -- For each one of w, at the place l, it has a piece of 2 ^ l leaves.
@@ -99,7 +98,7 @@ pub over-pieces : (C : ℕ) (B : List ℕ) (x : ℕ) (s : ℕ → ℕ → ℕ) (
     → ((a l : ℕ) → s a (suc l) ≡ s a l + s (a + 2 ^ l) l)
     → ((a : ℕ) → (a < C → getD B a 0 ≡ x → ⊥) → s a 0 ≡ 0)
     → ((a l : ℕ) → a % 2 ^ l ≡ 0 → a + 2 ^ l ≤ C → ((i : ℕ) → a ≤ i → i < a + 2 ^ l → getD B i 0 ≡ x) → (K * s a l ≤ 2 ^ l * T + D) × (2 ^ l * T ≤ K * s a l + D))
-    → C ≤ 4095 → (K * s 0 12 ≤ weight C B x * T + number C B x * D) × (weight C B x * T ≤ K * s 0 12 + number C B x * D)
+    → C ≤ 4095 → (K * s 0 12 ≤ weight C B x * T + pieceCount C B x * D) × (weight C B x * T ≤ K * s 0 12 + pieceCount C B x * D)
 over-pieces C B x s K T D halves none run few = sums.over-pieces C B x s K T D halves none run few
 
 -- Leaves given to a name.

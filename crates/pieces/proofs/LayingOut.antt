@@ -12,11 +12,12 @@ use lib.ListN.{length, getD, set, take, drop, length-append, length-set, drop-of
 use lib.Seq.{length-take-le, take-suc-set, append-snoc, drop-cons, getD-take}
 use borrow.Author.Tests.{eq-eqb, ne-eqb, lt-ltb, le-ltb, ltb-true, ltb-false}
 use Rattle.general.proofs.Laws.{by-bool}
-use Rattle.names.specs.Table.{numberOf}
+use Rattle.names.specs.Table.{numberUnder}
 use Rattle.names.proofs.Laws.{number-large}
 use Rattle.pieces.specs.Board.{good, weight, Weighed}
 use Rattle.pieces.specs.Placing.{Placeable, placed}
-use Rattle.pieces.specs.Fresh.{Stream, rising, rank, ranks, laid, Placeables, largest, idle, streams, fresh}
+use Rattle.pieces.specs.Fresh.{rising, rank, ranks, allPlaced, Placeables, largestName, idle, streams, fresh}
+use Rattle.pieces.specs.Streams.{Stream}
 use Rattle.pieces.specs.Laying.{holding, holders, Heaviest, Layable}
 use Rattle.pieces.proofs.Streams.{span, leaves-span}
 use Rattle.pieces.proofs.Layouts.{largest-above, streams-among, fresh-placeable}
@@ -52,7 +53,7 @@ module _ (W : ℕ → ℕ) where
 
 module _ (M : List ℕ) where
   abbrev W : ℕ → ℕ
-  W = numberOf M
+  W = numberUnder M
 
   -- What is listed, and what is still to be looked at from x on.
   pub record Listing (N : List ℕ) (n x : ℕ) : Type 0 where
@@ -120,8 +121,7 @@ module _ (W : ℕ → ℕ) (L : List ℕ) where
   ]
 
 pub heaviest-next : (W : ℕ → ℕ) (N : List ℕ) (n w v : ℕ) → n ≤ length N → Heaviest W N n (suc w) v → ranks W (take n N) w ≡ ranks W (take n N) v
-heaviest-next W N n w v h s =
-    ranks-skip W (take n N) w v (omega (arith, s .below)) (λ i l p q.
+heaviest-next W N n w v h s = ranks-skip W (take n N) w v (omega (arith, s .below)) (λ i l p q.
     let k = length-take-le n N h in
     let e = ap W (getD-take n N i 0 (omega arith)) in
     let m = s .most i (omega arith) in
@@ -155,8 +155,8 @@ module _ (C : ℕ) (W : ℕ → ℕ) (w : ℕ) (L : List ℕ) where
   abbrev pub left : ℕ → List Stream
   left i = rank W w (drop i L)
 
-  pub left-none : (D : List ℕ) (i : ℕ) → length L ≤ i → D ≡ laid C D (left i)
-  unfolding laid rank
+  pub left-none : (D : List ℕ) (i : ℕ) → length L ≤ i → D ≡ allPlaced C D (left i)
+  unfolding allPlaced rank
   left-none D i h = rw (drop-of-length-le L h) refl
 
   module _ (D : List ℕ) (i : ℕ) (h : i < length L) where
@@ -177,19 +177,19 @@ module _ (C : ℕ) (W : ℕ → ℕ) (w : ℕ) (L : List ℕ) where
         (λ t. let q : Placeables C D (record { name = x; weight = w } ∷ left (i + 1)) = rw (this, t) at p in rw t (q .2))
         (λ f. let q : Placeables C D (left (i + 1)) = rw (this, f) at p in rw f q)
 
-    pub turn-laid : laid C (cond (eqb (W x) w) (placed C D x w) D) (left (i + 1)) ≡ laid C D (left i)
-    unfolding laid
+    pub turn-laid : allPlaced C (cond (eqb (W x) w) (placed C D x w) D) (left (i + 1)) ≡ allPlaced C D (left i)
+    unfolding allPlaced
     turn-laid = rw this (by-bool (eqb (W x) w) (λ t. rw t refl) (λ f. rw f refl))
 
 -- ---- a weight's turn
 
-laid-append : (C : ℕ) (D : List ℕ) (ss ts : List Stream) → laid C D (ss ++ ts) ≡ laid C (laid C D ss) ts
-unfolding laid
+laid-append : (C : ℕ) (D : List ℕ) (ss ts : List Stream) → allPlaced C D (ss ++ ts) ≡ allPlaced C (allPlaced C D ss) ts
+unfolding allPlaced
 laid-append C D [] ts = refl
 laid-append C D (s ∷ ss) ts = laid-append C (placed C D (s .name) (s .weight)) ss ts
 
-placeables-split : (C : ℕ) (D : List ℕ) (ss ts : List Stream) → Placeables C D (ss ++ ts) → Placeables C D ss × Placeables C (laid C D ss) ts
-unfolding Placeables laid
+placeables-split : (C : ℕ) (D : List ℕ) (ss ts : List Stream) → Placeables C D (ss ++ ts) → Placeables C D ss × Placeables C (allPlaced C D ss) ts
+unfolding Placeables allPlaced
 placeables-split C D [] ts p = (tt, p)
 placeables-split C D (s ∷ ss) ts p =
     let r = placeables-split C (placed C D (s .name) (s .weight)) ss ts (p .2) in
@@ -205,33 +205,32 @@ module _ (C : ℕ) (W : ℕ → ℕ) (N : List ℕ) (n : ℕ) (D : List ℕ) whe
   weight-turn (suc w) h p = placeables-split C D (rank W (suc w) L) (ranks W L w) p .0
 
   pub weight-next : (w v : ℕ) → 0 < w → n ≤ length N → Heaviest W N n w v → Placeables C D (ranks W L w)
-      → Placeables C (laid C D (rank W w L)) (ranks W L v) × (laid C (laid C D (rank W w L)) (ranks W L v) ≡ laid C D (ranks W L w))
+      → Placeables C (allPlaced C D (rank W w L)) (ranks W L v) × (allPlaced C (allPlaced C D (rank W w L)) (ranks W L v) ≡ allPlaced C D (ranks W L w))
   unfolding ranks
   weight-next zero v h l s p = absurd (omega arith)
-  weight-next (suc w) v h l s p =
-      rw (← heaviest-next W N n w v l s) (
-        placeables-split C D (rank W (suc w) L) (ranks W L w) p .1,
-        sym (laid-append C D (rank W (suc w) L) (ranks W L w)),
-      )
+  weight-next (suc w) v h l s p = rw (← heaviest-next W N n w v l s) (
+    placeables-split C D (rank W (suc w) L) (ranks W L w) p .1,
+    sym (laid-append C D (rank W (suc w) L) (ranks W L w)),
+  )
 
 -- the last of them
-pub ranks-none : (C : ℕ) (W : ℕ → ℕ) (L D : List ℕ) (w : ℕ) → w ≡ 0 → D ≡ laid C D (ranks W L w)
-unfolding laid ranks
+pub ranks-none : (C : ℕ) (W : ℕ → ℕ) (L D : List ℕ) (w : ℕ) → w ≡ 0 → D ≡ allPlaced C D (ranks W L w)
+unfolding allPlaced ranks
 ranks-none C W L D w e = rw e refl
 
 -- ---- all of it
 
 -- The names on leaves of 16 bits.
-largest-leaf : (N n : ℕ) (B : List ℕ) → ((i : ℕ) → getD B i 0 ≤ N) → largest n B ≤ N
-unfolding largest
+largest-leaf : (N n : ℕ) (B : List ℕ) → ((i : ℕ) → getD B i 0 ≤ N) → largestName n B ≤ N
+unfolding largestName
 largest-leaf N zero B h = omega arith
 largest-leaf N (suc n) B h = omega (arith, largest-leaf N n B h, h n)
 
 module _ (C : ℕ) (B M : List ℕ) {r : Bool} (few : C ≤ 4095) (long : C ≤ length B) (leaf : (i : ℕ) → getD B i 0 < 65536) (found : Weighed C B M r) (sound : good C B ≡ true) where
-  highest : largest C B ≤ 65535
+  highest : largestName C B ≤ 65535
   highest = largest-leaf 65535 C B (λ i. omega (arith, leaf i))
 
-  weighs : numberOf M ≡ weight C B
+  weighs : numberUnder M ≡ weight C B
   weighs = fun-ext (λ x. elim (decLt x 65536) [
     | yes l ↦ found .weights (found .test ∙ sound) x l
     | no l ↦ omega (arith, number-large M (found .table) x (omega arith), largest-above C B x (omega (arith, highest)))
@@ -241,9 +240,9 @@ module _ (C : ℕ) (B M : List ℕ) {r : Bool} (few : C ≤ 4095) (long : C ≤ 
   unfolding holders
   holders-few = rw weighs (omega (arith, holding-few (weight C B) 1 65535, leaves-span C 65535 B highest))
 
-  holders-streams : ranks (numberOf M) (holders M) C ≡ streams C B
+  holders-streams : ranks (numberUnder M) (holders M) C ≡ streams C B
   unfolding holders
-  holders-streams = ranks-holding (numberOf M) (rising 1 65535) C ∙ ap (λ (W : ℕ → ℕ). ranks W (rising 1 65535) C) weighs ∙ streams-among C B 65535 highest
+  holders-streams = ranks-holding (numberUnder M) (rising 1 65535) C ∙ ap (λ (W : ℕ → ℕ). ranks W (rising 1 65535) C) weighs ∙ streams-among C B 65535 highest
 
   pub layable : (D L : List ℕ) → L ≡ holders M → D ≡ idle C B → Layable C D M L
   layable D L e f = record {
@@ -253,5 +252,5 @@ module _ (C : ℕ) (B M : List ℕ) {r : Bool} (few : C ≤ 4095) (long : C ≤ 
     ready = rw (e, f, holders-streams) (fresh-placeable C B few long);
   }
 
-  pub laid-fresh : (D L : List ℕ) → L ≡ holders M → D ≡ idle C B → laid C D (ranks (numberOf M) L C) ≡ fresh C B
+  pub laid-fresh : (D L : List ℕ) → L ≡ holders M → D ≡ idle C B → allPlaced C D (ranks (numberUnder M) L C) ≡ fresh C B
   laid-fresh D L e f = rw (e, f, holders-streams) refl

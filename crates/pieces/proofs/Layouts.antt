@@ -10,13 +10,14 @@ use lib.ListN.{length, getD}
 use lib.Seq.{ext-getD}
 use borrow.Author.Tests.{ne-eqb}
 use Rattle.pieces.specs.Board.{good, weight}
-use Rattle.pieces.specs.Fresh.{Stream, rising, ranks, laid, Placeables, largest, idle, streams, fresh}
+use Rattle.pieces.specs.Fresh.{rising, ranks, allPlaced, Placeables, largestName, idle, streams, fresh}
+use Rattle.pieces.specs.Streams.{Stream, heldOf, total}
 use Rattle.pieces.proofs.Weight.{weight-le}
 use Rattle.pieces.proofs.Adding.{length-fill, fill-in, fill-out}
 use Rattle.pieces.proofs.Literal.{good-intro}
 use Rattle.pieces.proofs.Opened.{idle-good}
-use Rattle.pieces.proofs.Streams.{Apart, Laid, listed, total, laid-all, placeables, ranks-own, ranks-beyond, ranks-apart, ranks-total, ranks-same, ranks-more, leaves-span}
-use Rattle.pieces.proofs.Local.{laid-local}
+use Rattle.pieces.proofs.Streams.{Apart, Laid, laid-all, placeables, ranks-own, ranks-beyond, ranks-apart, ranks-total, ranks-same, ranks-more, leaves-span}
+use Rattle.pieces.proofs.EqualLeaves.{laid-local}
 
 -- The weights of idle leaves.
 idle-weights : (n : ℕ) (D : List ℕ) → ((i : ℕ) → i < n → getD D i 0 ≡ 0) → (weight n D 0 ≡ n) × ((x : ℕ) → (x ≡ 0 → ⊥) → weight n D x ≡ 0)
@@ -28,16 +29,16 @@ idle-weights (suc n) D z =
     (rw e (omega (arith, r .0)), λ x m. rw (e, ne-eqb 0 x (λ q. m (sym q))) (omega (arith, r .1 x m)))
 
 -- No leaf holds a name above the largest.
-pub largest-above : (n : ℕ) (B : List ℕ) (x : ℕ) → largest n B < x → weight n B x ≡ 0
-unfolding largest weight
+pub largest-above : (n : ℕ) (B : List ℕ) (x : ℕ) → largestName n B < x → weight n B x ≡ 0
+unfolding largestName weight
 largest-above zero B x h = refl
 largest-above (suc n) B x h = rw (ne-eqb (getD B n 0) x (λ e. omega arith)) (omega (arith, largest-above n B x (omega arith)))
 
 -- Names above it may be looked at too.
-pub streams-among : (C : ℕ) (B : List ℕ) (N : ℕ) → largest C B ≤ N → ranks (weight C B) (rising 1 N) C ≡ streams C B
+pub streams-among : (C : ℕ) (B : List ℕ) (N : ℕ) → largestName C B ≤ N → ranks (weight C B) (rising 1 N) C ≡ streams C B
 streams-among C B N h =
-    let e : N ≡ largest C B + (N - largest C B) = omega arith in
-    rw e (ranks-more (weight C B) (largest C B) (N - largest C B) (λ y l. largest-above C B y (omega arith)) C)
+    let e : N ≡ largestName C B + (N - largestName C B) = omega arith in
+    rw e (ranks-more (weight C B) (largestName C B) (N - largestName C B) (λ y l. largest-above C B y (omega arith)) C)
 
 module _ (C : ℕ) (B : List ℕ) (few : C ≤ 4095) (long : C ≤ length B) where
   idle-leaf : (i : ℕ) → i < C → getD (idle C B) i 0 ≡ 0
@@ -48,7 +49,7 @@ module _ (C : ℕ) (B : List ℕ) (few : C ≤ 4095) (long : C ≤ length B) whe
 
   -- The idle leaves and the streams make up the board.
   whole : weight C B 0 + total (streams C B) ≡ C
-  whole = omega (arith, ranks-total (weight C B) (largest C B) C (weight-le C B), leaves-span C (largest C B) B (omega arith))
+  whole = omega (arith, ranks-total (weight C B) (largestName C B) C (weight-le C B), leaves-span C (largestName C B) B (omega arith))
 
   free : (weight C (idle C B) 0 ≡ C) × ((x : ℕ) → (x ≡ 0 → ⊥) → weight C (idle C B) x ≡ 0)
   free = idle-weights C (idle C B) idle-leaf
@@ -60,12 +61,12 @@ module _ (C : ℕ) (B : List ℕ) (few : C ≤ 4095) (long : C ≤ length B) whe
 
   -- and make a good board, on which each name has what they give it.
   pub idle-laid : (ss : List Stream) → Placeables C (idle C B) ss
-      → (good C (laid C (idle C B) ss) ≡ true) × ((x : ℕ) → (x ≡ 0 → ⊥) → weight C (laid C (idle C B) ss) x ≡ listed x ss)
+      → (good C (allPlaced C (idle C B) ss) ≡ true) × ((x : ℕ) → (x ≡ 0 → ⊥) → weight C (allPlaced C (idle C B) ss) x ≡ heldOf x ss)
   idle-laid ss may = let r = laid-all C ss (idle C B) sound may in (r .sound, λ x n. omega (arith, r .weights x n, free .1 x n))
 
   -- Each of its streams can be added in its turn.
   pub fresh-placeable : Placeables C (idle C B) (streams C B)
-  fresh-placeable = idle-placeable (streams C B) (ranks-apart (weight C B) (largest C B) C) (omega (arith, whole))
+  fresh-placeable = idle-placeable (streams C B) (ranks-apart (weight C B) (largestName C B) C) (omega (arith, whole))
 
   all : Laid C (idle C B) (fresh C B) (streams C B)
   all = laid-all C (streams C B) (idle C B) sound fresh-placeable
@@ -86,9 +87,9 @@ module _ (C : ℕ) (B : List ℕ) (few : C ≤ 4095) (long : C ≤ length B) whe
   pub fresh-weights : (x : ℕ) → weight C (fresh C B) x ≡ weight C B x
   fresh-weights x = elim (ℕ-discrete x 0) [
     | yes e ↦ rw e (omega (arith, all .idle, free .0, whole))
-    | no e ↦ elim (decLt (largest C B) x) [
-      | yes l ↦ omega (arith, all .weights x e, free .1 x e, ranks-beyond (weight C B) (largest C B) C x l, largest-above C B x l)
-      | no l ↦ omega (arith, all .weights x e, free .1 x e, ranks-own (weight C B) (largest C B) C x (omega arith) (omega arith) (weight-le C B x))
+    | no e ↦ elim (decLt (largestName C B) x) [
+      | yes l ↦ omega (arith, all .weights x e, free .1 x e, ranks-beyond (weight C B) (largestName C B) C x l, largest-above C B x l)
+      | no l ↦ omega (arith, all .weights x e, free .1 x e, ranks-own (weight C B) (largestName C B) C x (omega arith) (omega arith) (weight-le C B x))
     ]
   ]
 
@@ -96,7 +97,7 @@ module _ (C : ℕ) (B : List ℕ) (few : C ≤ 4095) (long : C ≤ length B) whe
 pub fresh-same : (C : ℕ) (B B′ : List ℕ) → C ≤ length B → C ≤ length B′ → ((x : ℕ) → (x ≡ 0 → ⊥) → weight C B x ≡ weight C B′ x)
     → (i : ℕ) → i < C → getD (fresh C B) i 0 ≡ getD (fresh C B′) i 0
 fresh-same C B B′ long long′ same =
-    let N = largest C B + largest C B′ in
+    let N = largestName C B + largestName C B′ in
     let ss : streams C B ≡ streams C B′ =
     sym (streams-among C B N (omega arith)) ∙ ranks-same (weight C B) (weight C B′) same N C ∙ streams-among C B′ N (omega arith) in
     rw ss (laid-local C (streams C B′) (idle C B) (idle C B′) (record {

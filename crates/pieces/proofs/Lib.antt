@@ -5,25 +5,25 @@ mod Piece
 mod Weight
 mod Placed
 mod Adding
-mod Move
+mod TidyStep
 mod Tidied
 mod Removed
 pub mod Literal
-mod Masks
-mod Spots
-mod Pairs
+mod DamageTest
+mod IdleSearch
+mod IdleListing
 mod Joining
-mod Steps
+mod LoopSteps
 mod Sums
 mod Opened
 mod Entries
-mod Walks
+mod PiecesByStart
 mod Rows
 pub mod Laws
 mod Admitting
 mod AfterAdd
 mod Streams
-mod Local
+mod EqualLeaves
 mod Layouts
 mod LayingOut
 mod Examples

@@ -57,8 +57,7 @@ pub record Twin (a e q : ℕ) : Type 0 where
   pub apart : (other + 2 ^ e ≤ a) ⊎ (a + 2 ^ e ≤ other)
 
 pub twin-of : {a e q : ℕ} → In a e q (suc e) → Twin a e q
-twin-of {a} {e} {q} i =
-    ⊎-elim (λ r. absurd (omega arith))
+twin-of {a} {e} {q} i = ⊎-elim (λ r. absurd (omega arith))
     (⊎-elim
     (λ j. let s = bounds j in record { other = q + 2 ^ e; inside = high here; apart = inr (omega arith) })
     (λ j. let s = bounds j in record { other = q; inside = low here; apart = inl (omega arith) }))
@@ -127,10 +126,8 @@ module _ (C : ℕ) (B : List ℕ) (x : ℕ) where
 
   -- What `nth` finds is a piece.
   pub nth-piece : (e k b l : ℕ) → k < pieces C B x e b l → Piece (nth C B x e k b l) e b l
-  nth-piece e k b zero h =
-      by-bool (whole C B x b zero) (λ t. nth-all e k b zero t h) (λ f. absurd (omega (arith, pieces-none e b f)))
-  nth-piece e k b (suc l) h =
-      by-bool (whole C B x b (suc l)) (λ t. nth-all e k b (suc l) t h)
+  nth-piece e k b zero h = by-bool (whole C B x b zero) (λ t. nth-all e k b zero t h) (λ f. absurd (omega (arith, pieces-none e b f)))
+  nth-piece e k b (suc l) h = by-bool (whole C B x b (suc l)) (λ t. nth-all e k b (suc l) t h)
       (λ f. elim (decLt k (pieces C B x e b l)) [
         | yes r ↦ rw (nth-low e k b l f r) (piece-low f (nth-piece e k b l r))
         | no r ↦ rw (nth-high e k b l f (omega arith)) (piece-high f (nth-piece e (k - pieces C B x e b l) (b + 2 ^ l) l (omega (arith, pieces-apart e b l f))))
@@ -142,8 +139,7 @@ module _ (C : ℕ) (B : List ℕ) (x : ℕ) where
       let s : i ≡ b = omega arith in
       let t = whole-intro C B x b 0 (λ j u v. let r : j ≡ i = omega arith in rw r (c, h)) in
       (b, 0, piece-all b 0 t, p, q)
-  leaf-piece i b (suc l) p q c h =
-      by-bool (whole C B x b (suc l)) (λ t. (b, suc l, piece-all b (suc l) t, p, q))
+  leaf-piece i b (suc l) p q c h = by-bool (whole C B x b (suc l)) (λ t. (b, suc l, piece-all b (suc l) t, p, q))
       (λ f. elim (decLt i (b + 2 ^ l)) [
         | yes r ↦ let w = leaf-piece i b l p r c h in (w .0, w .1, piece-low f (w .2), w .3, w .4)
         | no r ↦ let w = leaf-piece i (b + 2 ^ l) l (omega arith) (omega (arith, two-pow-succ l)) c h in (w .0, w .1, piece-high f (w .2), w .3, w .4)
@@ -160,8 +156,7 @@ module _ (C : ℕ) (B : List ℕ) (x : ℕ) where
   pub nth-order : (e k j b l : ℕ) → k < j → j < pieces C B x e b l → nth C B x e k b l + 2 ^ e ≤ nth C B x e j b l
   nth-order e k j b zero h g =
       by-bool (whole C B x b zero) (λ t. absurd (omega (arith, pieces-one e b zero t))) (λ f. absurd (omega (arith, pieces-none e b f)))
-  nth-order e k j b (suc l) h g =
-      by-bool (whole C B x b (suc l)) (λ t. absurd (omega (arith, pieces-one e b (suc l) t)))
+  nth-order e k j b (suc l) h g = by-bool (whole C B x b (suc l)) (λ t. absurd (omega (arith, pieces-one e b (suc l) t)))
       (λ f. let s = pieces-apart e b l f in
       elim (decLt j (pieces C B x e b l)) [
         | yes r ↦ rw (nth-low e k b l f (omega arith), nth-low e j b l f r) (nth-order e k j b l h r)
@@ -175,8 +170,7 @@ module _ (C : ℕ) (B : List ℕ) (x : ℕ) where
       ])
 
   not-whole : {a e b l : ℕ} → In a e b l → e < l → NoParent C B x a e b l → whole C B x b l ≡ false
-  not-whole {b = b} {l = l} i h t =
-      never (whole C B x b l) (λ w. let p = parent i h in clash (whole-sub (p .2) w) (t (p .0) (p .1) (p .2)))
+  not-whole {b = b} {l = l} i h t = never (whole C B x b l) (λ w. let p = parent i h in clash (whole-sub (p .2) w) (t (p .0) (p .1) (p .2)))
 
   -- Every piece is found.
   pub piece-nth : {a e b l : ℕ} → Piece a e b l → (k : ℕ) × (k < pieces C B x e b l) × (nth C B x e k b l ≡ a)

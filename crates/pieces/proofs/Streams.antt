@@ -13,42 +13,34 @@ use Rattle.general.specs.Tests.{one}
 use Rattle.general.proofs.Laws.{by-bool}
 use Rattle.pieces.specs.Board.{good, weight}
 use Rattle.pieces.specs.Placing.{Placeable, placed}
-use Rattle.pieces.specs.Fresh.{Stream, rising, rank, ranks, laid, Placeables, largest}
+use Rattle.pieces.specs.Fresh.{rising, rank, ranks, allPlaced, Placeables, largestName}
+use Rattle.pieces.specs.Streams.{Stream, heldOf, total}
 use Rattle.pieces.proofs.AfterAdd.{placed-length, placed-good, placed-weight, placed-idle, placed-others, placed-beyond}
 
 -- ---- a list of streams
 
--- The weight that it gives the name x, and all of them together.
-unfoldable pub listed : ℕ → List Stream → ℕ
-listed x [] = 0
-listed x (s ∷ ss) = cond (eqb (s .name) x) (s .weight) 0 + listed x ss
-
-unfoldable pub total : List Stream → ℕ
-total [] = 0
-total (s ∷ ss) = s .weight + total ss
-
 -- Each has a name and a weight, and no two have one name.
 unfoldable pub Apart : List Stream → Type 0
 Apart [] = Unit {0}
-Apart (s ∷ ss) = (s .name ≡ 0 → ⊥) × (0 < s .weight) × (listed (s .name) ss ≡ 0) × Apart ss
+Apart (s ∷ ss) = (s .name ≡ 0 → ⊥) × (0 < s .weight) × (heldOf (s .name) ss ≡ 0) × Apart ss
 
-listed-append : (x : ℕ) (ss ts : List Stream) → listed x (ss ++ ts) ≡ listed x ss + listed x ts
-unfolding listed
-listed-append x [] ts = omega arith
-listed-append x (s ∷ ss) ts = omega (arith, listed-append x ss ts)
+held-of-append : (x : ℕ) (ss ts : List Stream) → heldOf x (ss ++ ts) ≡ heldOf x ss + heldOf x ts
+unfolding heldOf
+held-of-append x [] ts = omega arith
+held-of-append x (s ∷ ss) ts = omega (arith, held-of-append x ss ts)
 
 total-append : (ss ts : List Stream) → total (ss ++ ts) ≡ total ss + total ts
 unfolding total
 total-append [] ts = omega arith
 total-append (s ∷ ss) ts = omega (arith, total-append ss ts)
 
-apart-append : (ss ts : List Stream) → Apart ss → Apart ts → ((x : ℕ) → 0 < listed x ss → listed x ts ≡ 0) → Apart (ss ++ ts)
-unfolding Apart listed
+apart-append : (ss ts : List Stream) → Apart ss → Apart ts → ((x : ℕ) → 0 < heldOf x ss → heldOf x ts ≡ 0) → Apart (ss ++ ts)
+unfolding Apart heldOf
 apart-append [] ts p q none = q
 apart-append (s ∷ ss) ts p q none = (
   p .0,
   p .1,
-  omega (arith, listed-append (s .name) ss ts, p .2, none (s .name) (rw (eq-eqb (s .name) (s .name) refl) (omega (arith, p .1)))),
+  omega (arith, held-of-append (s .name) ss ts, p .2, none (s .name) (rw (eq-eqb (s .name) (s .name) refl) (omega (arith, p .1)))),
   apart-append ss ts (p .3) q (λ x h. none x (omega arith)),
 )
 
@@ -59,12 +51,12 @@ pub record Laid (C : ℕ) (D E : List ℕ) (ss : List Stream) : Type 0 where
   pub size : length E ≡ length D
   pub sound : good C E ≡ true
   pub beyond : (i : ℕ) → C ≤ i → getD E i 0 ≡ getD D i 0
-  pub weights : (x : ℕ) → (x ≡ 0 → ⊥) → weight C E x ≡ weight C D x + listed x ss
+  pub weights : (x : ℕ) → (x ≡ 0 → ⊥) → weight C E x ≡ weight C D x + heldOf x ss
   pub idle : weight C E 0 + total ss ≡ weight C D 0
 
 module _ (C : ℕ) where
-  pub laid-all : (ss : List Stream) (D : List ℕ) → good C D ≡ true → Placeables C D ss → Laid C D (laid C D ss) ss
-  unfolding laid Placeables listed total
+  pub laid-all : (ss : List Stream) (D : List ℕ) → good C D ≡ true → Placeables C D ss → Laid C D (allPlaced C D ss) ss
+  unfolding allPlaced Placeables heldOf total
   laid-all [] D sound p = record { size = refl; sound = sound; beyond = λ i h. refl; weights = λ x n. omega arith; idle = omega arith }
   laid-all (s ∷ ss) D sound p =
       let may = p .0 in
@@ -82,8 +74,8 @@ module _ (C : ℕ) where
 
   -- Streams with names of their own that the board does not hold, and room for all of them.
   pub placeables : C ≤ 4095 → (ss : List Stream) (D : List ℕ) → C ≤ length D → good C D ≡ true → Apart ss
-      → ((x : ℕ) → (x ≡ 0 → ⊥) → 0 < listed x ss → weight C D x ≡ 0) → total ss ≤ weight C D 0 → Placeables C D ss
-  unfolding Placeables Apart listed total
+      → ((x : ℕ) → (x ≡ 0 → ⊥) → 0 < heldOf x ss → weight C D x ≡ 0) → total ss ≤ weight C D 0 → Placeables C D ss
+  unfolding Placeables Apart heldOf total
   placeables few [] D long sound apart none room = tt
   placeables few (s ∷ ss) D long sound apart none room =
       let x = s .name in
@@ -100,7 +92,7 @@ module _ (C : ℕ) where
         apart .1,
         placeables few ss (placed C D x w) (omega (arith, placed-length C D x w may)) (placed-good C D x w may) (apart .3)
             (λ y n h.
-            let other : y ≡ x → ⊥ = λ e. let z : listed y ss ≡ 0 = ap (λ (i : ℕ). listed i ss) e ∙ apart .2 in omega arith in
+            let other : y ≡ x → ⊥ = λ e. let z : heldOf y ss ≡ 0 = ap (λ (i : ℕ). heldOf i ss) e ∙ apart .2 in omega arith in
             placed-others C D x w may y n other ∙ none y n (omega arith))
             (omega (arith, placed-idle C D x w may)),
       )
@@ -108,16 +100,16 @@ module _ (C : ℕ) where
 -- ---- the streams by weight and name
 
 module _ (W : ℕ → ℕ) where
-  rank-none : (w y x n : ℕ) → (x ≤ y → y < x + n → W y ≡ w → ⊥) → listed y (rank W w (rising x n)) ≡ 0
-  unfolding listed rank rising
+  rank-none : (w y x n : ℕ) → (x ≤ y → y < x + n → W y ≡ w → ⊥) → heldOf y (rank W w (rising x n)) ≡ 0
+  unfolding heldOf rank rising
   rank-none w y x zero h = refl
   rank-none w y x (suc n) h = elim (ℕ-discrete (W x) w) [
     | yes e ↦ rw (eq-eqb (W x) w e, ne-eqb x y (λ q. h (omega arith) (omega arith) (ap W (sym q) ∙ e))) (omega (arith, rank-none w y (suc x) n (λ p l. h (omega arith) (omega arith))))
     | no e ↦ rw (ne-eqb (W x) w e) (rank-none w y (suc x) n (λ p l. h (omega arith) (omega arith)))
   ]
 
-  rank-own : (y x n : ℕ) → x ≤ y → y < x + n → listed y (rank W (W y) (rising x n)) ≡ W y
-  unfolding listed rank rising
+  rank-own : (y x n : ℕ) → x ≤ y → y < x + n → heldOf y (rank W (W y) (rising x n)) ≡ W y
+  unfolding heldOf rank rising
   rank-own y x zero p l = absurd (omega arith)
   rank-own y x (suc n) p l = elim (ℕ-discrete x y) [
     | yes e ↦ rw (eq-eqb (W x) (W y) (ap W e), eq-eqb x y e) (omega (arith, rank-none (W y) y (suc x) n (λ q k r. omega arith)))
@@ -135,30 +127,30 @@ module _ (W : ℕ → ℕ) where
 
   module _ (N : ℕ) where
     -- a heavier stream is not among them,
-    ranks-above : (w y : ℕ) → w < W y → listed y (ranks W (rising 1 N) w) ≡ 0
-    unfolding listed ranks
+    ranks-above : (w y : ℕ) → w < W y → heldOf y (ranks W (rising 1 N) w) ≡ 0
+    unfolding heldOf ranks
     ranks-above zero y h = refl
     ranks-above (suc w) y h =
-        omega (arith, listed-append y (rank W (suc w) (rising 1 N)) (ranks W (rising 1 N) w), rank-none (suc w) y 1 N (λ p l e. omega arith), ranks-above w y (omega arith))
+        omega (arith, held-of-append y (rank W (suc w) (rising 1 N)) (ranks W (rising 1 N) w), rank-none (suc w) y 1 N (λ p l e. omega arith), ranks-above w y (omega arith))
 
     -- and any other has its weight there.
-    pub ranks-own : (w y : ℕ) → 0 < y → y ≤ N → W y ≤ w → listed y (ranks W (rising 1 N) w) ≡ W y
-    unfolding listed ranks
+    pub ranks-own : (w y : ℕ) → 0 < y → y ≤ N → W y ≤ w → heldOf y (ranks W (rising 1 N) w) ≡ W y
+    unfolding heldOf ranks
     ranks-own zero y p l h = omega arith
     ranks-own (suc w) y p l h =
-        let s = listed-append y (rank W (suc w) (rising 1 N)) (ranks W (rising 1 N) w) in
+        let s = held-of-append y (rank W (suc w) (rising 1 N)) (ranks W (rising 1 N) w) in
         elim (ℕ-discrete (W y) (suc w)) [
           | yes e ↦
-              let own : listed y (rank W (suc w) (rising 1 N)) ≡ W y = rw (← e) (rank-own y 1 N p (omega arith)) in
+              let own : heldOf y (rank W (suc w) (rising 1 N)) ≡ W y = rw (← e) (rank-own y 1 N p (omega arith)) in
               omega (arith, ranks-above w y (omega arith))
           | no e ↦ omega (arith, rank-none (suc w) y 1 N (λ q k r. e r), ranks-own w y p l (omega arith))
         ]
 
-    pub ranks-beyond : (w y : ℕ) → N < y → listed y (ranks W (rising 1 N) w) ≡ 0
-    unfolding listed ranks
+    pub ranks-beyond : (w y : ℕ) → N < y → heldOf y (ranks W (rising 1 N) w) ≡ 0
+    unfolding heldOf ranks
     ranks-beyond zero y h = refl
     ranks-beyond (suc w) y h =
-        omega (arith, listed-append y (rank W (suc w) (rising 1 N)) (ranks W (rising 1 N) w), rank-none (suc w) y 1 N (λ p l e. omega arith), ranks-beyond w y h)
+        omega (arith, held-of-append y (rank W (suc w) (rising 1 N)) (ranks W (rising 1 N) w), rank-none (suc w) y 1 N (λ p l e. omega arith), ranks-beyond w y h)
 
     pub ranks-apart : (w : ℕ) → Apart (ranks W (rising 1 N) w)
     unfolding Apart ranks
@@ -201,8 +193,8 @@ span-one v x (suc n) p l = elim (ℕ-discrete v x) [
 ]
 
 -- Every leaf is idle or holds one name.
-pub leaves-span : (n N : ℕ) (B : List ℕ) → largest n B ≤ N → weight n B 0 + span (weight n B) 1 N ≡ n
-unfolding weight largest
+pub leaves-span : (n N : ℕ) (B : List ℕ) → largestName n B ≤ N → weight n B 0 + span (weight n B) 1 N ≡ n
+unfolding weight largestName
 leaves-span zero N B h = omega (arith, span-none (weight 0 B) 1 N (λ y p l. refl))
 leaves-span (suc n) N B h =
     let v = getD B n 0 in

@@ -6,11 +6,7 @@ use lib.Dec.{eqb}
 use lib.ListN.{getD}
 use Rattle.pieces.specs.Board.{weight}
 use Rattle.pieces.specs.Placing.{Placeable, fill, placed}
-
--- A stream that is to be added.
-pub record Stream : Type 0 where
-  pub name : ℕ
-  pub weight : ℕ
+use Rattle.pieces.specs.Streams.{Stream}
 
 -- The n names from x on, rising.
 unfoldable pub rising : ℕ → ℕ → List ℕ
@@ -30,9 +26,9 @@ ranks W L zero = []
 ranks W L (suc w) = rank W (suc w) L ++ ranks W L w
 
 -- D with streams placed on it, one after the other.
-unfoldable pub laid : ℕ → List ℕ → List Stream → List ℕ
-laid C D [] = D
-laid C D (s ∷ ss) = laid C (placed C D (s .name) (s .weight)) ss
+unfoldable pub allPlaced : ℕ → List ℕ → List Stream → List ℕ
+allPlaced C D [] = D
+allPlaced C D (s ∷ ss) = allPlaced C (placed C D (s .name) (s .weight)) ss
 
 -- Each of them can be added when its turn comes: a good board with room that does not hold it.
 unfoldable pub Placeables : ℕ → List ℕ → List Stream → Type 0
@@ -40,9 +36,9 @@ Placeables C D [] = Unit {0}
 Placeables C D (s ∷ ss) = Placeable C D (s .name) (s .weight) × (0 < s .weight) × Placeables C (placed C D (s .name) (s .weight)) ss
 
 -- The largest name that a leaf holds.
-unfoldable pub largest : ℕ → List ℕ → ℕ
-largest zero B = 0
-largest (suc n) B = max (largest n B) (getD B n 0)
+unfoldable pub largestName : ℕ → List ℕ → ℕ
+largestName zero B = 0
+largestName (suc n) B = max (largestName n B) (getD B n 0)
 
 -- B with its leaves idle.
 abbrev pub idle : ℕ → List ℕ → List ℕ
@@ -50,8 +46,8 @@ idle C B = fill B 0 C 0
 
 -- The streams of a board, by falling weight, then rising name.
 abbrev pub streams : ℕ → List ℕ → List Stream
-streams C B = ranks (weight C B) (rising 1 (largest C B)) C
+streams C B = ranks (weight C B) (rising 1 (largestName C B)) C
 
 -- The board laid out afresh.
 abbrev pub fresh : ℕ → List ℕ → List ℕ
-fresh C B = laid C (idle C B) (streams C B)
+fresh C B = allPlaced C (idle C B) (streams C B)

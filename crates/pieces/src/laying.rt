@@ -4,9 +4,9 @@ ghost use mathlib.Core.Bool.{cond, _&&_};
 ghost use Prim.Native.Nat.{suc, _≤_, _<_};
 ghost use lib.Dec.{eqb, ltb};
 ghost use lib.ListN.{length, set, take};
-ghost use Rattle.names.specs.Table.{Table, numberOf};
+ghost use Rattle.general.specs.Lists.{blank};
+ghost use Rattle.names.specs.Table.{Table, numberUnder};
 ghost use Rattle.pieces.specs.Placing as placing;
-ghost use Rattle.pieces.specs.Halving as halving;
 ghost use Rattle.pieces.specs.Fresh as fresh;
 ghost use Rattle.pieces.specs.Laying as laying;
 use crate::placing::place;
@@ -52,7 +52,7 @@ fn heavier(r: usize, w: usize, below: usize) -> usize
 // The largest weight below some number that one of n listed names has; 0 where there is none.
 fn heaviest(sizes: &[u16], names: &[u16], n: usize, below: usize) -> usize
     requires { ⌜ Table (now sizes) × (n ≤ length (now names)) × (n ≤ 4095) × (0 < below) ⌝ }
-    ensures { λ r. ⌜ laying.Heaviest (numberOf (now (sizes .entry))) (now (names .entry)) n below r ⌝ }
+    ensures { λ r. ⌜ laying.Heaviest (numberUnder (now (sizes .entry))) (now (names .entry)) n below r ⌝ }
 {
     let mut r: usize = 0;
     let mut i: usize = 0;
@@ -75,8 +75,8 @@ fn place_turn(board: &mut [u16], c: usize, name: u16, m: usize, w: usize)
 
 // Places the streams of one weight, by n listed names in their order.
 fn place_rank(board: &mut [u16], c: usize, sizes: &[u16], names: &[u16], n: usize, w: usize)
-    requires { ⌜ Table (now sizes) × (n ≤ length (now names)) × (n ≤ 4095) × fresh.Placeables c (now board) (fresh.rank (numberOf (now sizes)) w (take n (now names))) ⌝ }
-    ensures { λ _. ⌜ now (board .exit) ≡ fresh.laid c (now (board .entry)) (fresh.rank (numberOf (now (sizes .entry))) w (take n (now (names .entry)))) ⌝ }
+    requires { ⌜ Table (now sizes) × (n ≤ length (now names)) × (n ≤ 4095) × fresh.Placeables c (now board) (fresh.rank (numberUnder (now sizes)) w (take n (now names))) ⌝ }
+    ensures { λ _. ⌜ now (board .exit) ≡ fresh.allPlaced c (now (board .entry)) (fresh.rank (numberUnder (now (sizes .entry))) w (take n (now (names .entry)))) ⌝ }
 {
     let mut i: usize = 0;
     while i < n {
@@ -89,7 +89,7 @@ fn place_rank(board: &mut [u16], c: usize, sizes: &[u16], names: &[u16], n: usiz
 // Places the streams of n listed names, by falling weight. Weights that none of them has are passed over.
 pub fn place_all(board: &mut [u16], c: usize, sizes: &[u16], names: &[u16], n: usize)
     requires { ⌜ (n ≤ length (now names)) × laying.Layable c (now board) (now sizes) (take n (now names)) ⌝ }
-    ensures { λ _. ⌜ now (board .exit) ≡ fresh.laid c (now (board .entry)) (fresh.ranks (numberOf (now (sizes .entry))) (take n (now (names .entry))) c) ⌝ }
+    ensures { λ _. ⌜ now (board .exit) ≡ fresh.allPlaced c (now (board .entry)) (fresh.ranks (numberUnder (now (sizes .entry))) (take n (now (names .entry))) c) ⌝ }
 {
     let mut w = heaviest(sizes, names, n, c + 1);
     while 0 < w {
@@ -98,9 +98,9 @@ pub fn place_all(board: &mut [u16], c: usize, sizes: &[u16], names: &[u16], n: u
     }
 }
 
-// No name. The array is made here and nowhere else, so that no other proof computes it.
+// A list without names. The array is made here and nowhere else, so that no other proof computes it.
 pub fn no_names() -> [u16; 4095]
-    ensures { λ r. ⌜ r ≡ halving.blank 4095 ⌝ }
+    ensures { λ r. ⌜ r ≡ blank 4095 ⌝ }
 {
     [0u16; 4095]
 }

@@ -17,7 +17,6 @@ pub mod listing;
 mod placing;
 mod tidying;
 
-use crate::damage::TWICE;
 use crate::damage::scan;
 use crate::laying::list_names;
 use crate::laying::no_names;
@@ -58,8 +57,24 @@ pub fn weigh(board: &[u16], c: usize, name: u16) -> usize
     count(board, 0, c, name)
 }
 
-// Whether a search counts a block before it halves it: one of at most 256 leaves that lies on the board. Larger blocks are seldom of one name,
-// and each exponent counted is one more pass over the board.
+// Whether a block is a run of one name. Where its first leaf and its last hold different names it is not counted.
+fn is_run(board: &[u16], c: usize, a: usize, l: usize) -> bool
+    requires { ⌜ halving.Block c (length (now board)) a l ⌝ }
+    ensures { λ r. ⌜ r ≡ boards.whole c (now (board .entry)) (getD (now (board .entry)) a 0) a l ⌝ }
+{
+    let size = size_of(l);
+    if c < a + size {
+        return false;
+    }
+    let x = board[a];
+    if board[a + size - 1] != x {
+        return false;
+    }
+    count(board, a, size, x) == size
+}
+
+// Whether a search counts a block's idle leaves before it halves it: one of at most 256 leaves that lies on the board. Larger blocks are
+// seldom idle, or without idle leaves, and each exponent counted is one more pass over the board.
 fn countable(c: usize, a: usize, l: usize) -> bool
     requires { ⌜ (l ≤ 12) × (a + 2 ^ l ≤ 4096) ⌝ }
     ensures { λ r. ⌜ (r ≡ true → a + 2 ^ l ≤ c) ⌝ }
@@ -70,27 +85,30 @@ fn countable(c: usize, a: usize, l: usize) -> bool
     false
 }
 
-// Whether a count shows a block to be a run of one name. False tells nothing.
-fn is_run(board: &[u16], c: usize, a: usize, l: usize) -> bool
-    requires { ⌜ halving.Block c (length (now board)) a l ⌝ }
-    ensures { λ r. ⌜ (r ≡ true → boards.whole c (now (board .entry)) (getD (now (board .entry)) a 0) a l ≡ true) ⌝ }
-{
-    if countable(c, a, l) {
-        let size = size_of(l);
-        return count(board, a, size, board[a]) == size;
-    }
-    false
+// What a count of a block's idle leaves tells: that all its leaves are idle, that none is, or neither. Where they are not counted it is neither.
+enum Idle {
+    All,
+    None,
+    Neither,
 }
 
-// How many leaves of a block are idle; 1, which tells nothing, where they are not counted.
-fn idle_leaves(board: &[u16], c: usize, a: usize, l: usize) -> usize
-    requires { ⌜ halving.Block c (length (now board)) a l × (0 < l) ⌝ }
-    ensures { λ r. ⌜ halving.Idle c (now (board .entry)) a l r ⌝ }
+// What a count of a block's idle leaves tells of it.
+fn idle_leaves(board: &[u16], c: usize, a: usize, l: usize) -> Idle
+    requires { ⌜ halving.Block c (length (now board)) a l ⌝ }
+    ensures { λ r. ⌜ halving.Told c (now (board .entry)) a l r ⌝ }
 {
-    if countable(c, a, l) {
-        return count(board, a, size_of(l), 0);
+    if !countable(c, a, l) {
+        return Idle::Neither;
     }
-    1
+    let size = size_of(l);
+    let n = count(board, a, size, 0);
+    if n == 0 {
+        return Idle::None;
+    }
+    if n == size {
+        return Idle::All;
+    }
+    Idle::Neither
 }
 
 // Whether the board is good. Where it is, each name has its weight in the sizes, none at entry: on a good board the sizes of its pieces are the binary digits of
@@ -99,7 +117,7 @@ pub fn weights(board: &[u16], c: usize, sizes: &mut [u16]) -> bool
     requires { ⌜ (c ≤ length (now board)) × (c ≤ 4095) × Empty (now sizes) ⌝ }
     ensures { λ r. ⌜ boards.Weighed c (now (board .entry)) (now (sizes .exit)) r ⌝ }
 {
-    scan(board, c, 0, 12, sizes) != TWICE
+    !scan(board, c, 0, 12, sizes)
 }
 
 // Whether the board is good: no two pieces of the same name, idle included, have equal size.

@@ -5,9 +5,13 @@ ghost use Prim.Native.Nat.{ℕ, _≤_, _<_};
 ghost use lib.ListN.{length};
 ghost use Rattle.pieces.specs.Tidying as tidying;
 ghost use Rattle.pieces.specs.Halving as halving;
+use crate::Idle;
 use crate::fill;
 use crate::idle_leaves;
 use crate::size_of;
+
+// What stands for no start: a board has less than 4,096 leaves. It is a number, since the kit covers no slice of enums.
+const NO_START: usize = 4096;
 
 // Makes all leaves of a name idle.
 pub fn clear(board: &mut [u16], c: usize, name: u16)
@@ -51,7 +55,7 @@ fn meet_idle(f: bool, g: bool, a: usize, m: usize, h: usize, starts: &mut [usize
 }
 
 // Whether a leaf is idle.
-fn list_leaf(board: &[u16], c: usize, a: usize) -> bool
+fn is_idle_leaf(board: &[u16], c: usize, a: usize) -> bool
     requires { ⌜ halving.Block c (length (now board)) a 0 ⌝ }
     ensures { λ r. ⌜ ((S : List ℕ) → halving.Listed c (now (board .entry)) a 0 S S r) ⌝ }
 {
@@ -71,14 +75,16 @@ fn list_idle(board: &[u16], c: usize, a: usize, l: usize, starts: &mut [usize]) 
         return false;
     }
     if l == 0 {
-        return list_leaf(board, c, a);
+        return is_idle_leaf(board, c, a);
     }
-    let idle = idle_leaves(board, c, a, l);
-    if idle == 0 {
-        return false;
-    }
-    if idle == size_of(l) {
-        return true;
+    match idle_leaves(board, c, a, l) {
+        Idle::None => {
+            return false;
+        }
+        Idle::All => {
+            return true;
+        }
+        Idle::Neither => {}
     }
     let h = l - 1;
     let m = a + size_of(h);
@@ -87,26 +93,33 @@ fn list_idle(board: &[u16], c: usize, a: usize, l: usize, starts: &mut [usize]) 
     meet_idle(f, g, a, m, h, starts)
 }
 
-// The smallest exponent of which two starts are entered; 12 where there is none.
-fn smallest_pair(starts: &[usize]) -> usize
+// Two idle pieces of one size, by its exponent and their starts; or that no size has two.
+enum Pair {
+    Unpaired,
+    Two {
+        exponent: usize,
+        first: usize,
+        second: usize,
+    },
+}
+
+// The smallest exponent of which two starts are entered, with them.
+fn smallest_pair(starts: &[usize]) -> Pair
     requires { ⌜ length (now starts) ≡ 24 ⌝ }
     ensures { λ r. ⌜ r ≡ halving.smallestPair (now (starts .entry)) ⌝ }
 {
     let mut e: usize = 0;
     while e < 12 {
-        if starts[12 + e] != 4096 {
-            return e;
+        if starts[12 + e] != NO_START {
+            return Pair::Two {
+                exponent: e,
+                first: starts[e],
+                second: starts[12 + e],
+            };
         }
         e += 1;
     }
-    12
-}
-
-// Two idle pieces of one size, by its exponent and their starts; an exponent of 12 stands for none.
-struct Pair {
-    exponent: usize,
-    first: usize,
-    second: usize,
+    Pair::Unpaired
 }
 
 // The pair that tidying takes next: of the smallest size that has two, the two with the lowest starts. One search lists them.
@@ -114,21 +127,9 @@ fn find_pair(board: &[u16], c: usize) -> Pair
     requires { ⌜ (c ≤ length (now board)) × (c ≤ 4095) ⌝ }
     ensures { λ r. ⌜ halving.Paired c (now (board .entry)) r ⌝ }
 {
-    let mut starts = [4096usize; 24];
+    let mut starts = [NO_START; 24];
     list_idle(board, c, 0, 12, &mut starts);
-    let e = smallest_pair(&starts);
-    if e == 12 {
-        return Pair {
-            exponent: 12,
-            first: 0,
-            second: 0,
-        };
-    }
-    Pair {
-        exponent: e,
-        first: starts[e],
-        second: starts[12 + e],
-    }
+    smallest_pair(&starts)
 }
 
 // The start of a run's twin.
@@ -184,11 +185,18 @@ pub fn tidy(board: &mut [u16], c: usize)
 {
     let mut steps: usize = 0;
     while steps < c {
-        let p = find_pair(board, c);
-        if p.exponent == 12 {
-            return;
+        match find_pair(board, c) {
+            Pair::Unpaired => {
+                return;
+            }
+            Pair::Two {
+                exponent,
+                first,
+                second,
+            } => {
+                join_pair(board, c, exponent, first, second);
+            }
         }
-        join_pair(board, c, p.exponent, p.first, p.second);
         steps += 1;
     }
 }

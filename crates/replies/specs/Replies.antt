@@ -19,11 +19,11 @@ abbrev pub reply : Drive → Answer → Reply
 reply d a = record { drive = d; said = saidOf a }
 
 -- What is said of a call that is done; a number with one value, and that of a refusal.
-abbrev pub done : ℕ → ℕ → ℕ → ℕ → Said
-done a b c d = saidOf (record { number = 0; values = a ∷ b ∷ c ∷ d ∷ [] })
+abbrev pub saidDone : ℕ → ℕ → ℕ → ℕ → Said
+saidDone a b c d = saidOf (record { number = 0; values = a ∷ b ∷ c ∷ d ∷ [] })
 
-abbrev pub told : ℕ → ℕ → Said
-told n a = saidOf (record { number = n; values = a ∷ [] })
+abbrev pub saidTold : ℕ → ℕ → Said
+saidTold n a = saidOf (record { number = n; values = a ∷ [] })
 
-abbrev pub refusal : Refusal → ℕ → Said
-refusal r a = told (numberOf r) a
+abbrev pub saidRefused : Refusal → ℕ → Said
+saidRefused r a = saidTold (numberOf r) a

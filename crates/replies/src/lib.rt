@@ -1,22 +1,18 @@
 // What the exported functions give back: the answer of each call in plain numbers, and the record beside it. An enum cannot cross to C.
 ghost use mathlib.Core.Path.{_≡_};
-ghost use Rattle.calls.specs.Answers.{openingAnswer, servingAnswer, roundingAnswer, refreshingAnswer, reportAnswer};
-ghost use Rattle.sheets.specs.Results.{savingAnswer, loadingAnswer};
+ghost use Rattle.calls.specs.Answers.{checkAnswer, servingAnswer, reportAnswer};
+ghost use Rattle.sheets.specs.Results.{savingAnswer};
 ghost use Rattle.orders.specs.Answers.{orderingAnswer, fetchingAnswer};
 ghost use Rattle.tree.specs.Results.{walkingAnswer};
 ghost use Rattle.groups.specs.Results.{importingAnswer};
 ghost use Rattle.share_boards.specs.Starting as starting;
-ghost use Rattle.replies.specs.Replies.{saidOf, reply, done, told, refusal};
+ghost use Rattle.replies.specs.Replies.{saidOf, reply, saidDone, saidTold, saidRefused};
+use calls::Check;
+use calls::Checked;
 use calls::Drive;
-use calls::Opened;
-use calls::Opening;
-use calls::Refreshed;
-use calls::Refreshing;
 use calls::Refusal;
 use calls::Report;
 use calls::Reported;
-use calls::Rounded;
-use calls::Rounding;
 use calls::Served;
 use calls::Serving;
 use groups::Imported;
@@ -25,8 +21,6 @@ use orders::Ordered;
 use orders::Ordering;
 use share_boards::starting::ShareSaved;
 use share_boards::starting::ShareSaving;
-use sheets::Loaded;
-use sheets::Loading;
 use sheets::Saved;
 use sheets::Saving;
 use tree::Walking;
@@ -52,7 +46,7 @@ pub struct Reply {
 
 // A call that is done.
 fn said_done(first: u64, second: u64, third: u64, fourth: u64) -> Said
-    ensures { λ r. ⌜ r ≡ done first second third fourth ⌝ }
+    ensures { λ r. ⌜ r ≡ saidDone first second third fourth ⌝ }
 {
     Said {
         number: 0,
@@ -65,7 +59,7 @@ fn said_done(first: u64, second: u64, third: u64, fourth: u64) -> Said
 
 // A number and one value.
 fn said_told(number: u64, first: u64) -> Said
-    ensures { λ r. ⌜ r ≡ told number first ⌝ }
+    ensures { λ r. ⌜ r ≡ saidTold number first ⌝ }
 {
     Said {
         number,
@@ -78,7 +72,7 @@ fn said_told(number: u64, first: u64) -> Said
 
 // A call that is refused. Only ROOM has a value.
 fn said_refused(why: Refusal, first: u64) -> Said
-    ensures { λ r. ⌜ r ≡ refusal why first ⌝ }
+    ensures { λ r. ⌜ r ≡ saidRefused why first ⌝ }
 {
     Said {
         number: why.number() as u64,
@@ -121,18 +115,18 @@ pub fn said_saving(answer: Saving) -> Said
     }
 }
 
-// The reply of open.
-pub fn of_opened(r: Opened) -> Reply
-    ensures { λ s. ⌜ s ≡ reply (r .drive) (openingAnswer (r .answer)) ⌝ }
+// The reply of open, of round, of the fresh layout and of read.
+pub fn of_checked(r: Checked) -> Reply
+    ensures { λ s. ⌜ s ≡ reply (r .drive) (checkAnswer (r .answer)) ⌝ }
 {
     let drive = r.drive;
     let answer = r.answer;
     match answer {
-        Opening::Done => Reply {
+        Check::Clear => Reply {
             drive,
             said: said_done(0, 0, 0, 0),
         },
-        Opening::Refused(why) => Reply {
+        Check::Refused(why) => Reply {
             drive,
             said: said_refused(why, 0),
         },
@@ -192,42 +186,6 @@ pub fn of_served(r: Served) -> Reply
     }
 }
 
-// The reply of round.
-pub fn of_rounded(r: Rounded) -> Reply
-    ensures { λ s. ⌜ s ≡ reply (r .drive) (roundingAnswer (r .answer)) ⌝ }
-{
-    let drive = r.drive;
-    let answer = r.answer;
-    match answer {
-        Rounding::Done => Reply {
-            drive,
-            said: said_done(0, 0, 0, 0),
-        },
-        Rounding::Refused(why) => Reply {
-            drive,
-            said: said_refused(why, 0),
-        },
-    }
-}
-
-// The reply of the fresh layout.
-pub fn of_refreshed(r: Refreshed) -> Reply
-    ensures { λ s. ⌜ s ≡ reply (r .drive) (refreshingAnswer (r .answer)) ⌝ }
-{
-    let drive = r.drive;
-    let answer = r.answer;
-    match answer {
-        Refreshing::Done => Reply {
-            drive,
-            said: said_done(0, 0, 0, 0),
-        },
-        Refreshing::Refused(why) => Reply {
-            drive,
-            said: said_refused(why, 0),
-        },
-    }
-}
-
 // The reply of report.
 pub fn of_reported(r: Reported) -> Reply
     ensures { λ s. ⌜ s ≡ reply (r .drive) (reportAnswer (r .answer)) ⌝ }
@@ -250,24 +208,6 @@ pub fn of_reported(r: Reported) -> Reply
     }
 }
 
-// The reply of read.
-pub fn of_loaded(r: Loaded) -> Reply
-    ensures { λ s. ⌜ s ≡ reply (r .drive) (loadingAnswer (r .answer)) ⌝ }
-{
-    let drive = r.drive;
-    let answer = r.answer;
-    match answer {
-        Loading::Done => Reply {
-            drive,
-            said: said_done(0, 0, 0, 0),
-        },
-        Loading::Refused(why) => Reply {
-            drive,
-            said: said_refused(why, 0),
-        },
-    }
-}
-
 // The reply of an import.
 pub fn of_imported(r: Imported) -> Reply
     ensures { λ s. ⌜ s ≡ reply (r .drive) (importingAnswer (r .answer)) ⌝ }
@@ -275,7 +215,7 @@ pub fn of_imported(r: Imported) -> Reply
     let drive = r.drive;
     let answer = r.answer;
     match answer {
-        Importing::Done => Reply {
+        Importing::Clear => Reply {
             drive,
             said: said_done(0, 0, 0, 0),
         },

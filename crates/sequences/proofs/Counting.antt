@@ -1,5 +1,4 @@
--- Counts over a window of numbers; among them, that the numbers of one class modulo M are spread evenly.
--- Assumes nothing.
+-- Counts over a window of numbers; among them, that the numbers of one class modulo M are spread evenly. Assumes nothing.
 use mathlib.Core.Path.{_≡_, refl, sym, ap, ap₂, _∙_}
 use mathlib.Core.Bool.{Bool, false}
 use Prim.Native.Nat.{ℕ, zero, suc, _+_, _-_, _*_, _/_, _%_, _≤_, _<_}
@@ -20,8 +19,7 @@ class M r x = eqb (x % M) r
 pub count-same : (f g : ℕ → Bool) (P T : ℕ) → ((x : ℕ) → P ≤ x → x < P + T → f x ≡ g x) → countIn f P T ≡ countIn g P T
 unfolding countIn
 count-same f g P zero h = refl
-count-same f g P (suc T) h =
-    ap₂ (λ (b : Bool) (n : ℕ). one b + n) (h P (le-refl P) (omega arith))
+count-same f g P (suc T) h = ap₂ (λ (b : Bool) (n : ℕ). one b + n) (h P (le-refl P) (omega arith))
     (count-same f g (suc P) T (λ x l u. h x (le-of-lt l) (omega arith)))
 
 pub count-append : (f : ℕ → Bool) (P S T : ℕ) → countIn f P (S + T) ≡ countIn f P S + countIn f (P + S) T

@@ -1,11 +1,10 @@
 -- An order of leaves worked by hand, for the slots in a row and for the scan of the two lists; and what source document 001 writes out of its sequences and of RB.
--- P1 to P10 stand in the table of `calls`.
--- Assumes nothing.
+-- P1 to P10 stand in the table of `calls`. Assumes nothing.
 use mathlib.Core.Path.{_≡_, refl}
 use mathlib.Core.List.{List, [], _∷_}
 use Prim.Native.Nat.{ℕ}
 use Rattle.sequences.specs.Sequences.{wss, tss, rb}
-use Rattle.sequences.specs.Board.{leafAt, nextFrom}
+use Rattle.sequences.specs.SlotOrder.{leafAt, nextFrom}
 use Rattle.sequences.specs.Serving.{leavesFrom, countList}
 use Rattle.sequences.specs.Scanning.{roundLeaves}
 

@@ -1,11 +1,10 @@
--- Fairness within a round: how often a run is served in a window of positions, and the arithmetic that turns positions into slots.
--- Assumes nothing.
+-- Fairness within a round: how often a run is served in a window of positions, and the arithmetic that turns positions into slots. Assumes nothing.
 use mathlib.Core.Path.{_≡_}
 use Prim.Native.Nat.{ℕ, zero, _+_, _*_, _%_, _^_, _≤_, _<_}
 use native.Mathlib.Nat.{mul-le-mul-left, mul-lt-mul-of-pos-left, lt-of-mul-lt-mul-left, le-of-lt}
 use native.Mathlib.Omega.{arith}
 use lib.Count.{ones}
-use Rattle.sequences.specs.Board.{digits, Position}
+use Rattle.sequences.specs.SlotOrder.{digits, Position}
 use Rattle.sequences.specs.Serving.{countIn, countList, inRun, servesRun, left, leavesFrom}
 use Rattle.sequences.proofs.Trees.{run-spread}
 use Rattle.sequences.proofs.Runs.{run-tree}

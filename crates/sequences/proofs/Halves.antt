@@ -1,6 +1,5 @@
 -- A round by its halves: the round of 2 C + b, with b 0 or 1, is the round of C on the even leaves, the last leaf if b is 1, and the round of C on the odd leaves.
--- It is so because the weight spread sequence is: order k + 1 is order k, then k + 1, then order k again.
--- Assumes nothing.
+-- It is so because the weight spread sequence is: order k + 1 is order k, then k + 1, then order k again. Assumes nothing.
 use mathlib.Core.Path.{_≡_, refl, sym, ap, _∙_, subst}
 use mathlib.Core.Bool.{Bool, true, false, cond}
 use mathlib.Core.List.{List, [], _∷_, _++_, map}
@@ -16,7 +15,7 @@ use lib.ListN.{replicate}
 use lib.Pow.{pow-pos, pow-add, shr-shr, mod-pow-add, high}
 use Rattle.general.specs.Tests.{one}
 use Rattle.sequences.specs.Sequences.{rb}
-use Rattle.sequences.specs.Board.{digits, term, column, bit, start, leafAt, servedFrom, Position}
+use Rattle.sequences.specs.SlotOrder.{digits, term, column, bit, start, leafAt, servedFrom, Position}
 use Rattle.sequences.specs.Serving.{countIn, countList, serves, leavesIn, leavesFrom}
 use Rattle.sequences.proofs.Reverse.{rb-block, rb-split, rb-one}
 use Rattle.sequences.proofs.Zeros.{zeros-low, zeros-of}
@@ -192,7 +191,7 @@ module _ (C b : ℕ) (some : zero < C) (odd : b < 2) (few : 2 * C + b < 4096) wh
 
 -- ---- in a round as many slots serve a leaf that passes a test as there are such leaves
 
-list-append : (f : ℕ → Bool) (L M : List ℕ) → countList f (L ++ M) ≡ countList f L + countList f M
+pub list-append : (f : ℕ → Bool) (L M : List ℕ) → countList f (L ++ M) ≡ countList f L + countList f M
 unfolding countList
 list-append f [] M = sym (zero-add (countList f M))
 list-append f (x ∷ L) M = omega (arith, list-append f L M)

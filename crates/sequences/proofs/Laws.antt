@@ -1,6 +1,5 @@
 -- The laws that upper crates cite, each under a name that says what holds. Nothing else of proofs/ is meant for them.
--- Throughout, C is the capacity, 1 to 4,095, k = digits C, and p a position; Position C p says that both are in range.
--- Assumes nothing.
+-- Throughout, C is the capacity, 1 to 4,095, k = digits C, and p a position; Position C p says that both are in range. Assumes nothing.
 use mathlib.Core.Path.{_≡_}
 use mathlib.Core.Bool.{Bool, true, false}
 use mathlib.Core.List.{List, [], _∷_, _++_, map}
@@ -10,7 +9,7 @@ use lib.Dec.{eqb}
 use lib.ListN.{length, getD, replicate}
 use Rattle.general.specs.Tests.{one}
 use Rattle.sequences.specs.Sequences.{wss, tss, rb}
-use Rattle.sequences.specs.Board.{digits, term, start, leafAt, passedFrom, servedFrom, nextFrom, Position}
+use Rattle.sequences.specs.SlotOrder.{digits, term, start, leafAt, passedFrom, servedFrom, nextFrom, Position}
 use Rattle.sequences.specs.Serving.{countIn, countList, serves, inRun, servesRun, left, leavesFrom, afterSlots, Walked}
 use Rattle.sequences.specs.Scanning.{roundLeaves}
 use Rattle.sequences.proofs.Reverse as reverse
@@ -33,6 +32,10 @@ digits-lt = places.digits-lt
 -- C is at least half of 2 ^ k.
 pub digits-le : (C : ℕ) → zero < C → 2 ^ digits C ≤ 2 * C
 digits-le = places.digits-le
+
+-- k is at least 1.
+pub digits-pos : (C : ℕ) → zero < C → zero < digits C
+digits-pos = places.digits-pos
 
 -- k is at most 12.
 pub digits-small : (C : ℕ) → zero < C → C < 4096 → digits C ≤ 12
@@ -147,7 +150,10 @@ count-append = counting.count-append
 pub count-more : (f : ℕ → Bool) (P T : ℕ) → countIn f P (suc T) ≡ countIn f P T + one (f (P + T))
 count-more = counting.count-more
 
--- What a mapped list has of a test.
+-- What two lists, one after the other, and a mapped list have of a test.
+pub list-append : (f : ℕ → Bool) (L M : List ℕ) → countList f (L ++ M) ≡ countList f L + countList f M
+list-append = halves.list-append
+
 pub count-map : (f : ℕ → Bool) (g : ℕ → ℕ) (L : List ℕ) → countList f (map g L) ≡ countList (λ (x : ℕ). f (g x)) L
 count-map = halves.list-map
 

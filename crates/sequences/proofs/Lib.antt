@@ -1,5 +1,4 @@
 -- What upper crates cite is Laws. The rest is inner.
-mod Tests
 mod Reverse
 mod Zeros
 mod Lists

@@ -1,9 +1,8 @@
--- The closed forms of the two sequences as lists: the term at p of the weight spread sequence, and Lemma 4 of source document 001.
--- Assumes nothing.
+-- The closed forms of the two sequences as lists: the term at p of the weight spread sequence, and Lemma 4 of source document 001. Assumes nothing.
 use mathlib.Core.Path.{_≡_, refl, sym, ap, _∙_}
-use mathlib.Core.List.{List, [], _∷_, _++_, map}
+use mathlib.Core.List.{List, _∷_, _++_, map}
 use Prim.Native.Nat.{ℕ, zero, suc, _+_, _-_, _*_, _/_, _^_, _≤_, _<_}
-use native.Mathlib.Nat.{not-suc-le-zero, le-of-suc-le-suc, div-eq-of-lt}
+use native.Mathlib.Nat.{div-eq-of-lt}
 use native.Mathlib.Numerals.{add-one}
 use native.Mathlib.Omega.{arith}
 use native.Mathlib.Decide.{decLt}
@@ -11,15 +10,11 @@ use lib.Pow.{high}
 use lib.Count.{trailingZeros}
 use lib.ListN.{length, getD, length-append, length-map, List·getD-append}
 use lib.Seq.{getD-append-add}
+use Rattle.general.proofs.Laws.{map-at}
 use Rattle.sequences.specs.Sequences.{wss, tss, rb}
-use Rattle.sequences.specs.Board.{term}
+use Rattle.sequences.specs.SlotOrder.{term}
 use Rattle.sequences.proofs.Zeros.{zeros-low, zeros-of, zeros-width}
 use Rattle.sequences.proofs.Reverse.{rb-split, rb-block, rb-of-zero}
-
-getD-map : (f : ℕ → ℕ) (l : List ℕ) (i : ℕ) → i < length l → getD (map f l) i 0 ≡ f (getD l i 0)
-getD-map f [] i h = absurd (not-suc-le-zero h)
-getD-map f (x ∷ l) zero h = refl
-getD-map f (x ∷ l) (suc i) h = getD-map f l i (le-of-suc-le-suc h)
 
 pub tss-length : (n : ℕ) → length (tss n) ≡ 2 ^ n
 unfolding tss
@@ -57,7 +52,7 @@ tss-low n i l ih =
     let m : length (map twice (tss n)) ≡ length (tss n) = length-map (tss n) twice in
     let z : rb (i / 2 ^ n) 1 ≡ 0 = ap (λ (x : ℕ). rb x 1) (div-eq-of-lt l) ∙ rb-of-zero 1 in
     List·getD-append (map twice (tss n)) (map twice-one (tss n)) 0 i (omega arith)
-    ∙ getD-map twice (tss n) i (omega arith) ∙ (omega arith)
+    ∙ map-at twice (tss n) i (omega arith) ∙ (omega arith)
 
 tss-high : (n i : ℕ) → 2 ^ n ≤ i → i < 2 ^ suc n → Lemma4 n (i - 2 ^ n)
     → getD (map twice (tss n) ++ map twice-one (tss n)) i 0 ≡ rb i n * 2 + rb (i / 2 ^ n) 1
@@ -71,7 +66,7 @@ tss-high n i l h ih =
     let b : rb i n ≡ rb (i - 2 ^ n) n = ap (λ (x : ℕ). rb x n) e ∙ rb-block 1 n (i - 2 ^ n) in
     getD-right (map twice (tss n)) (map twice-one (tss n)) i (omega arith)
     ∙ ap (λ (x : ℕ). getD (map twice-one (tss n)) (i - x) 0) (m ∙ s)
-    ∙ getD-map twice-one (tss n) (i - 2 ^ n) (omega arith) ∙ (omega arith)
+    ∙ map-at twice-one (tss n) (i - 2 ^ n) (omega arith) ∙ (omega arith)
 
 tss-halves : (n i : ℕ) → Dec (i < 2 ^ n) → i < 2 ^ suc n → ((i : ℕ) → i < 2 ^ n → Lemma4 n i)
     → getD (map twice (tss n) ++ map twice-one (tss n)) i 0 ≡ rb i n * 2 + rb (i / 2 ^ n) 1

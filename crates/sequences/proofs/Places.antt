@@ -1,5 +1,4 @@
--- Laws of the number of binary digits, and of the places where the trees start.
--- Assumes nothing.
+-- Laws of the number of binary digits, and of the places where the trees start. Assumes nothing.
 use mathlib.Core.Path.{_≡_, refl, sym, ap, _∙_}
 use mathlib.Core.Logic.{_⊎_, inl, inr}
 use Prim.Native.Nat.{ℕ, zero, suc, _+_, _-_, _*_, _/_, _%_, _^_, _≤_, _<_}
@@ -9,7 +8,7 @@ use native.Mathlib.Omega.{arith}
 use lib.Arith.{half-le}
 use lib.Count.{leadingZeros, leading-unique, leading-of-zero}
 use lib.Pow.{pow-mono, mod-pow-add, shl-exact}
-use Rattle.sequences.specs.Board.{digitsIn, digits, bit, start}
+use Rattle.sequences.specs.SlotOrder.{digitsIn, digits, bit, start}
 
 in-lt : (d n : ℕ) → n ≤ d → n < 2 ^ digitsIn d n
 unfolding digitsIn

@@ -1,5 +1,4 @@
--- Laws of RB, the reversal of binary digits.
--- Assumes nothing.
+-- Laws of RB, the reversal of binary digits. Assumes nothing.
 use mathlib.Core.Path.{_≡_, refl, sym, ap, ap₂, _∙_}
 use Prim.Native.Nat.{ℕ, zero, suc, _+_, _-_, _*_, _/_, _%_, _^_, _≤_, _<_}
 use native.Mathlib.Nat.{zero-add, mod-lt, div-one, suc-add, mod-one, mod-mod, mod-eq-of-lt}
@@ -21,8 +20,7 @@ rb-lt i (suc j) =
 pub rb-block : (a j r : ℕ) → rb (a * 2 ^ j + r) j ≡ rb r j
 unfolding rb
 rb-block a zero r = refl
-rb-block a (suc j) r =
-    ap₂ (λ (x y : ℕ). x * 2 ^ j + rb y j) (block-odd a j r) (block-half a j r)
+rb-block a (suc j) r = ap₂ (λ (x y : ℕ). x * 2 ^ j + rb y j) (block-odd a j r) (block-half a j r)
     ∙ ap (λ (y : ℕ). r % 2 * 2 ^ j + y) (rb-block a j (r / 2))
 
 pub rb-mod : (i j : ℕ) → rb (i % 2 ^ j) j ≡ rb i j
@@ -32,8 +30,7 @@ rb-mod i j = sym (rb-block (i / 2 ^ j) j (i % 2 ^ j)) ∙ ap (λ (x : ℕ). rb x
 pub rb-split : (i j d : ℕ) → rb i (j + d) ≡ rb i j * 2 ^ d + rb (i / 2 ^ j) d
 unfolding rb
 rb-split i zero d = rw (zero-add d, div-one i) (omega arith)
-rb-split i (suc j) d =
-    rw (suc-add j d)
+rb-split i (suc j) d = rw (suc-add j d)
     (let ih = rb-split (i / 2) j d in
     let e : i / 2 / 2 ^ j ≡ i / 2 ^ suc j = shr-shr i 1 j ∙ ap (λ (x : ℕ). i / 2 ^ x) (one-add j) in
     let q : 2 ^ (j + d) ≡ 2 ^ j * 2 ^ d = pow-add 2 j d in

@@ -1,5 +1,4 @@
--- How many slots a window of positions has: C in a whole round, and C * T / 2 ^ k in T positions, up to less than the ones of C.
--- Assumes nothing.
+-- How many slots a window of positions has: C in a whole round, and C * T / 2 ^ k in T positions, up to less than the ones of C. Assumes nothing.
 use mathlib.Core.Path.{_≡_, refl, sym, ap, ap₂, _∙_, subst}
 use mathlib.Core.Logic.{_⊎_, inl, inr}
 use mathlib.Core.Bool.{Bool, true, false, _&&_, and-true, and-false}
@@ -14,13 +13,13 @@ use lib.Dec.{eqb, ltb}
 use lib.Pow.{pow-pos, pow-add}
 use borrow.Author.Tests.{eq-eqb, ne-eqb, eqb-true, lt-ltb, le-ltb}
 use Rattle.general.specs.Tests.{one}
-use Rattle.sequences.specs.Board.{digits, term, column, bit, Position}
+use Rattle.general.proofs.Laws.{same-test}
+use Rattle.sequences.specs.SlotOrder.{digits, term, column, bit, Position}
 use Rattle.sequences.specs.Serving.{countIn, serves}
 use Rattle.sequences.proofs.Zeros.{zeros-form, zeros-unique}
 use Rattle.sequences.proofs.Places.{digits-lt, mod-step}
 use Rattle.sequences.proofs.Stepping.{column-add, column-lt}
 use Rattle.sequences.proofs.Counting.{class, count-same, count-sum, count-none, class-all, spread-times}
-use Rattle.sequences.proofs.Tests.{same-test}
 
 -- The positions of one term are a class: those of the term t + 1 are 2 ^ t modulo 2 ^ (t + 1).
 pub term-test : (k p t : ℕ) → zero < p → p < 2 ^ k → t < k → eqb (term k p) (suc t) ≡ class (2 ^ suc t) (2 ^ t) p
@@ -83,8 +82,7 @@ module _ (C P T : ℕ) (some : zero < C) (few : C < 4096) (first : zero < P) (la
 
   below-class : (J t x : ℕ) → digits C ≡ suc t + J → P ≤ x → x < P + T
       → one (servesBelow C (suc J) x) ≡ one (servesBelow C J x) + bit C J * one (class (2 ^ suc t) (2 ^ t) x)
-  below-class J t x order lo hi =
-      below-step C J x (decLt (column C x) J) (decLt J (column C x))
+  below-class J t x order lo hi = below-step C J x (decLt (column C x) J) (decLt J (column C x))
       ∙ ap (λ (b : Bool). one (servesBelow C J x) + bit C J * one b) (column-test C x J t (inside x lo hi) order)
 
   count-below : (J t : ℕ) → digits C ≡ suc t + J

@@ -1,5 +1,4 @@
--- Each run of leaves lies in one tree, and each leaf is served at just one position of a round.
--- Assumes nothing.
+-- Each run of leaves lies in one tree, and each leaf is served at just one position of a round. Assumes nothing.
 use mathlib.Core.Path.{_≡_, sym, ap, _∙_, subst}
 use mathlib.Core.Logic.{_⊎_, inl, inr}
 use Prim.Native.Nat.{ℕ, zero, suc, _+_, _-_, _*_, _/_, _%_, _^_, _≤_, _<_}
@@ -7,7 +6,7 @@ use native.Mathlib.Nat.{mod-eq-of-lt, mod-one, div-add-mod', le-div-iff-mul-le, 
 use native.Mathlib.Decide.{decLe}
 use native.Mathlib.Omega.{arith}
 use lib.Pow.{pow-pos, pow-mono, pow-add, split}
-use Rattle.sequences.specs.Board.{digits, column, bit, start, leafAt, Position}
+use Rattle.sequences.specs.SlotOrder.{digits, column, bit, start, leafAt, Position}
 use Rattle.sequences.proofs.Places.{digits-lt, start-split, bit-below}
 use Rattle.sequences.proofs.Trees.{residue, residue-lt, in-class, of-class}
 

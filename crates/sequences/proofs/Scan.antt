@@ -1,5 +1,4 @@
--- The slot order is that of G-3's two sequences as lists: the leaf of a position read off them, and a whole round.
--- Assumes nothing.
+-- The slot order is that of G-3's two sequences as lists: the leaf of a position read off them, and a whole round. Assumes nothing.
 use mathlib.Core.Path.{_≡_, refl, sym, ap, ap₂, _∙_, subst}
 use mathlib.Core.Bool.{cond}
 use mathlib.Core.List.{List, [], _∷_}
@@ -15,7 +14,7 @@ use lib.Pow.{pow-pos}
 use lib.Seq.{drop-cons, drop-length}
 use Rattle.general.specs.Tests.{one}
 use Rattle.sequences.specs.Sequences.{wss, tss}
-use Rattle.sequences.specs.Board.{digits, term, column, start, leafAt, Position}
+use Rattle.sequences.specs.SlotOrder.{digits, term, column, start, leafAt, Position}
 use Rattle.sequences.specs.Serving.{countIn, countList, serves, leavesIn, leavesFrom}
 use Rattle.sequences.specs.Scanning.{occurrences, scanned, roundLeaves}
 use Rattle.sequences.proofs.Zeros.{zeros-form}

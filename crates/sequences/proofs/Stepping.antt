@@ -1,5 +1,4 @@
--- One slot from a position: what it passes over, what it serves, and where it ends.
--- Assumes nothing.
+-- One slot from a position: what it passes over, what it serves, and where it ends. Assumes nothing.
 use mathlib.Core.Path.{_≡_, refl, ap}
 use mathlib.Core.Bool.{true, false}
 use Prim.Native.Nat.{ℕ, zero, suc, _+_, _-_, _/_, _%_, _^_, _≤_, _<_}
@@ -9,7 +8,7 @@ use lib.Count.{trailingZeros}
 use lib.Pow.{pow-mono, pow-pos, shr-lt}
 use borrow.Author.Tests.{lt-ltb, le-ltb, eq-eqb, ne-eqb}
 use Rattle.sequences.specs.Sequences.{rb}
-use Rattle.sequences.specs.Board.{digits, term, column, bit, start, leafAt, passedFrom, servedFrom, nextFrom, after, Position}
+use Rattle.sequences.specs.SlotOrder.{digits, term, column, bit, start, leafAt, passedFrom, servedFrom, nextFrom, positionAfter, Position}
 use Rattle.sequences.specs.Serving.{serves}
 use Rattle.sequences.proofs.Reverse.{rb-lt}
 use Rattle.sequences.proofs.Zeros.{zeros-form, zeros-unique, zeros-width}
@@ -104,45 +103,45 @@ unfolding servedFrom
 served-clear C p b = omega arith
 
 -- The position after q.
-pub after-more : (k q : ℕ) → suc q < 2 ^ k → after k q ≡ suc q
-after-more k q l = rw (lt-ltb (suc q) (2 ^ k) l)
+pub position-more : (k q : ℕ) → suc q < 2 ^ k → positionAfter k q ≡ suc q
+position-more k q l = rw (lt-ltb (suc q) (2 ^ k) l)
 
-pub after-end : (k q : ℕ) → 2 ^ k ≤ suc q → after k q ≡ 1
-after-end k q l = rw (le-ltb (suc q) (2 ^ k) l)
+pub position-end : (k q : ℕ) → 2 ^ k ≤ suc q → positionAfter k q ≡ 1
+position-end k q l = rw (le-ltb (suc q) (2 ^ k) l)
 
 -- It is a position of the round.
-after-valid : (C q : ℕ) → Position C q → Position C (after (digits C) q)
-after-valid C q at = go (decLt (suc q) (2 ^ digits C))
+position-valid : (C q : ℕ) → Position C q → Position C (positionAfter (digits C) q)
+position-valid C q at = go (decLt (suc q) (2 ^ digits C))
   where
-    go : Dec (suc q < 2 ^ digits C) → Position C (after (digits C) q)
-    go (yes l) = rw (after-more (digits C) q l) (record { some = at .some; few = at .few; first = omega arith; last = l })
+    go : Dec (suc q < 2 ^ digits C) → Position C (positionAfter (digits C) q)
+    go (yes l) = rw (position-more (digits C) q l) (record { some = at .some; few = at .few; first = omega arith; last = l })
     go (no l) =
         let e = even-pow (digits C) (digits-pos C (at .some)) in
-        rw (after-end (digits C) q (omega arith)) (record { some = at .some; few = at .few; first = omega arith; last = omega arith })
+        rw (position-end (digits C) q (omega arith)) (record { some = at .some; few = at .few; first = omega arith; last = omega arith })
 
 -- A slot from a position of the round passes over at most one term, serves a leaf of the board, and ends at a position of the round.
-pub record Served (C p : ℕ) : Type 0 where
+pub record TermServed (C p : ℕ) : Type 0 where
   pub here : Position C (servedFrom C p)
   pub set : bit C (column C (servedFrom C p)) ≡ 1
   pub passed : passedFrom C p ≤ 1
   pub leaf : leafAt C (servedFrom C p) < C
   pub next : Position C (nextFrom C p)
 
-served-at : (C p : ℕ) → Position C (servedFrom C p) → bit C (column C (servedFrom C p)) ≡ 1 → Served C p
+served-at : (C p : ℕ) → Position C (servedFrom C p) → bit C (column C (servedFrom C p)) ≡ 1 → TermServed C p
 unfolding nextFrom
 served-at C p h b = record {
   here = h;
   set = b;
   passed = omega arith;
   leaf = leaf-lt C (servedFrom C p) h b;
-  next = after-valid C (servedFrom C p) h;
+  next = position-valid C (servedFrom C p) h;
 }
 
 clear-even : (C p d : ℕ) → Position C p → bit C (column C p) ≡ 0 → p % 2 ≡ d → p % 2 ≡ 0
 clear-even C p zero at e o = o
 clear-even C p (suc d) at e o = let b = odd-serves C p at (omega arith) in omega arith
 
-served-by : (C p b : ℕ) → Position C p → bit C (column C p) ≡ b → Served C p
+served-by : (C p b : ℕ) → Position C p → bit C (column C p) ≡ b → TermServed C p
 served-by C p zero at e =
     let even : p % 2 ≡ 0 = clear-even C p (p % 2) at e refl in
     let w = even-pow (digits C) (digits-pos C (at .some)) in
@@ -154,7 +153,7 @@ served-by C p (suc b) at e =
     let s = served-set C p one in
     served-at C p (rw s at) (rw s one)
 
-pub served : (C p : ℕ) → Position C p → Served C p
+pub served : (C p : ℕ) → Position C p → TermServed C p
 served C p at = served-by C p (bit C (column C p)) at refl
 
 -- As tests: the term served serves, those before it do not, and the last one does.

@@ -1,11 +1,10 @@
--- Slots in a row: their number, one more at the end (what a loop goes by), and some after others.
--- Assumes nothing.
+-- Slots in a row: their number, one more at the end (what a loop goes by), and some after others. Assumes nothing.
 use mathlib.Core.Path.{_≡_, refl, ap, _∙_}
 use mathlib.Core.List.{List, [], _∷_, _++_}
 use Prim.Native.Nat.{ℕ, zero, suc, _+_, _<_}
 use native.Mathlib.Nat.{not-suc-le-zero, le-of-suc-le-suc, zero-add, suc-add}
 use lib.ListN.{length, getD}
-use Rattle.sequences.specs.Board.{leafAt, servedFrom, nextFrom, Position}
+use Rattle.sequences.specs.SlotOrder.{leafAt, servedFrom, nextFrom, Position}
 use Rattle.sequences.specs.Serving.{leavesFrom, afterSlots}
 use Rattle.sequences.proofs.Stepping.{served}
 

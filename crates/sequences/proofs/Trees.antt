@@ -1,5 +1,4 @@
--- Which positions serve the leaves of a run: those of one class.
--- Assumes nothing.
+-- Which positions serve the leaves of a run: those of one class. Assumes nothing.
 use mathlib.Core.Path.{_≡_, sym, ap, ap₂, _∙_, subst}
 use mathlib.Core.Bool.{true}
 use Prim.Native.Nat.{ℕ, zero, suc, _+_, _-_, _*_, _/_, _%_, _^_, _≤_, _<_}
@@ -11,16 +10,15 @@ use lib.Count.{trailingZeros}
 use lib.Dec.{leb, ltb}
 use lib.Pow.{pow-pos, pow-add, high, low, mod-pow-add, mod-mod-pow, field}
 use borrow.Author.Tests.{eq-eqb, eqb-true, leb-true, ltb-true, le-leb, lt-ltb}
-use Rattle.general.proofs.Laws.{both}
+use Rattle.general.proofs.Laws.{both, same-test}
 use Rattle.sequences.specs.Sequences.{rb}
-use Rattle.sequences.specs.Board.{digits, term, column, bit, start, leafAt, Position}
+use Rattle.sequences.specs.SlotOrder.{digits, term, column, bit, start, leafAt, Position}
 use Rattle.sequences.specs.Serving.{countIn, serves, inRun, servesRun}
 use Rattle.sequences.proofs.Reverse.{rb-lt, rb-high, rb-to, rb-back}
 use Rattle.sequences.proofs.Zeros.{zeros-form, zeros-unique}
 use Rattle.sequences.proofs.Places.{tree-split}
 use Rattle.sequences.proofs.Stepping.{column-add}
 use Rattle.sequences.proofs.Counting.{class, count-same, spread-times}
-use Rattle.sequences.proofs.Tests.{same-test}
 
 mod-pow-mono : (n i j : ℕ) → i ≤ j → n % 2 ^ i ≤ n % 2 ^ j
 mod-pow-mono n i j h =

@@ -1,5 +1,4 @@
--- Slots in a row within a round: they are the serving positions of a window, one after the other; and a whole round of them.
--- Assumes nothing.
+-- Slots in a row within a round: they are the serving positions of a window, one after the other; and a whole round of them. Assumes nothing.
 use mathlib.Core.Path.{_≡_, refl, sym, ap, _∙_}
 use mathlib.Core.Bool.{Bool, true, false, cond, _&&_}
 use mathlib.Core.List.{List, _∷_}
@@ -11,12 +10,11 @@ use lib.Dec.{eqb}
 use lib.ListN.{length}
 use borrow.Author.Tests.{eq-eqb, eqb-true}
 use Rattle.general.specs.Tests.{one}
-use Rattle.general.proofs.Laws.{both}
-use Rattle.sequences.specs.Board.{digits, column, bit, leafAt, passedFrom, servedFrom, nextFrom, Position}
+use Rattle.general.proofs.Laws.{both, same-test}
+use Rattle.sequences.specs.SlotOrder.{digits, column, bit, leafAt, passedFrom, servedFrom, nextFrom, Position}
 use Rattle.sequences.specs.Serving.{countIn, countList, serves, servesOf, left, leavesIn, leavesFrom, afterSlots, Walked}
-use Rattle.sequences.proofs.Tests.{same-test}
 use Rattle.sequences.proofs.Places.{digits-pos}
-use Rattle.sequences.proofs.Stepping.{served, served-set, served-clear, after-more, after-end, last-serves, even-pow}
+use Rattle.sequences.proofs.Stepping.{served, served-set, served-clear, position-more, position-end, last-serves, even-pow}
 use Rattle.sequences.proofs.Successive.{leaves-length}
 use Rattle.sequences.proofs.Counting.{class, count-same, count-append, count-more, class-all}
 use Rattle.sequences.proofs.Rounds.{round-count}
@@ -95,7 +93,7 @@ unfolding leavesFrom afterSlots nextFrom
 walk-more C p n at l w =
     let e = served-next C p in
     let T = w .over in
-    let go : nextFrom C p ≡ suc (servedFrom C p) = after-more (digits C) (servedFrom C p) l in
+    let go : nextFrom C p ≡ suc (servedFrom C p) = position-more (digits C) (servedFrom C p) l in
     let u = w .within in
     walked C p (suc n) (suc (passedFrom C p) + T) (omega arith)
     (ap (λ (y : ℕ). leafAt C (servedFrom C p) ∷ leavesFrom C y n) go ∙ ap (λ (xs : List ℕ). leafAt C (servedFrom C p) ∷ xs) (w .listed) ∙ sym (slot-listed C p T at))
@@ -107,7 +105,7 @@ unfolding leavesFrom leavesIn afterSlots nextFrom
 walk-last C p at l =
     let e = served-next C p in
     let g = served C p at .here .last in
-    walked C p 1 (suc (passedFrom C p) + 0) (omega arith) (sym (slot-listed C p 0 at)) (λ x. omega arith) (λ x. after-end (digits C) (servedFrom C p) l)
+    walked C p 1 (suc (passedFrom C p) + 0) (omega arith) (sym (slot-listed C p 0 at)) (λ x. omega arith) (λ x. position-end (digits C) (servedFrom C p) l)
 
 -- The rest is none after the last position.
 left-none : (C q : ℕ) → 2 ^ digits C ≤ q → left C q ≡ 0
@@ -121,8 +119,7 @@ walk C (suc n) p at h = go (decLt (suc (servedFrom C p)) (2 ^ digits C)) (left-n
   where
     go : Dec (suc (servedFrom C p) < 2 ^ digits C) → left C p ≡ suc (left C (suc (servedFrom C p)))
         → (Position C (suc (servedFrom C p)) → n ≤ left C (suc (servedFrom C p)) → Walked C (suc (servedFrom C p)) n) → Walked C p (suc n)
-    go (yes l) s ih =
-        walk-more C p n at l (ih (record { some = at .some; few = at .few; first = omega arith; last = l }) (omega arith))
+    go (yes l) s ih = walk-more C p n at l (ih (record { some = at .some; few = at .few; first = omega arith; last = l }) (omega arith))
     go (no l) s ih =
         let z = left-none C (suc (servedFrom C p)) (omega arith) in
         let e : n ≡ 0 = omega arith in

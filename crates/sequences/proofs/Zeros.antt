@@ -1,5 +1,4 @@
--- Laws of the trailing zero digits of a number: p has t of them, and the term t + 1, just where p is 2 ^ t modulo 2 ^ (t + 1).
--- Assumes nothing.
+-- Laws of the trailing zero digits of a number: p has t of them, and the term t + 1, just where p is 2 ^ t modulo 2 ^ (t + 1). Assumes nothing.
 use mathlib.Core.Path.{_≡_, refl, sym, ap, ap₂, _∙_}
 use Prim.Native.Nat.{ℕ, zero, suc, _+_, _*_, _/_, _%_, _^_, _≤_, _<_, suc-le-suc}
 use native.Mathlib.Nat.{not-suc-le-zero, le-of-suc-le-suc, zero-lt-suc, zero-add, zero-mul}
@@ -18,8 +17,7 @@ pub zeros-low : (k w a r : ℕ) → zero < r → r < 2 ^ k → k ≤ w → trail
 unfolding trailingZeros
 zeros-low zero w a r p h l = omega arith
 zeros-low (suc k) zero a r p h l = absurd (not-suc-le-zero l)
-zeros-low (suc k) (suc w) a r p h l =
-    ap₂ (λ (x y : ℕ). under x (trailingZeros w y)) (block-odd a k r) (block-half a k r)
+zeros-low (suc k) (suc w) a r p h l = ap₂ (λ (x y : ℕ). under x (trailingZeros w y)) (block-odd a k r) (block-half a k r)
     ∙ under-same (r % 2) (trailingZeros w (a * 2 ^ k + r / 2)) (trailingZeros k (r / 2))
     (λ e. zeros-low k w a (r / 2) (omega arith) (omega arith) (le-of-suc-le-suc l))
 
@@ -53,13 +51,11 @@ form-step k p t (suc d) e ih = (zero-lt-suc k, omega arith)
 pub zeros-form : (k p : ℕ) → zero < p → p < 2 ^ k → Form k p (trailingZeros k p)
 unfolding trailingZeros
 zeros-form zero p h l = omega arith
-zeros-form (suc k) p h l =
-    form-step k p (trailingZeros k (p / 2)) (p % 2) refl (λ e. zeros-form k (p / 2) (omega arith) (omega arith))
+zeros-form (suc k) p h l = form-step k p (trailingZeros k (p / 2)) (p % 2) refl (λ e. zeros-form k (p / 2) (omega arith) (omega arith))
 
 -- and there is one such number.
 pub zeros-unique : (k p t : ℕ) → t < k → p % 2 ^ suc t ≡ 2 ^ t → trailingZeros k p ≡ t
-zeros-unique k p t l e =
-    ap (trailingZeros k) (sym (split p (suc t)) ∙ ap (λ (x : ℕ). p / 2 ^ suc t * 2 ^ suc t + x) e)
+zeros-unique k p t l e = ap (trailingZeros k) (sym (split p (suc t)) ∙ ap (λ (x : ℕ). p / 2 ^ suc t * 2 ^ suc t + x) e)
     ∙ zeros-of t k (p / 2 ^ suc t) l
 
 -- The width does not count, if the number fits both.

@@ -6,7 +6,7 @@ use Prim.Native.Nat.{ℕ, _+_, _-_}
 use lib.Dec.{eqb}
 use lib.ListN.{getD}
 use Rattle.sequences.specs.Sequences.{wss, tss}
-use Rattle.sequences.specs.Board.{digits, bit, start}
+use Rattle.sequences.specs.SlotOrder.{digits, bit, start}
 use Rattle.sequences.specs.Serving.{countList}
 
 -- How often v stands in a list of terms.

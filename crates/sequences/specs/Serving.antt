@@ -6,7 +6,7 @@ use mathlib.Core.List.{List, [], _∷_}
 use Prim.Native.Nat.{ℕ, zero, suc, _+_, _-_, _^_, _≤_, _<_}
 use lib.Dec.{eqb, leb, ltb}
 use Rattle.general.specs.Tests.{one}
-use Rattle.sequences.specs.Board.{digits, bit, column, leafAt, servedFrom, nextFrom}
+use Rattle.sequences.specs.SlotOrder.{digits, bit, column, leafAt, servedFrom, nextFrom}
 
 -- How many of the numbers P to P + T - 1 pass the test f.
 unfoldable pub countIn : (ℕ → Bool) → ℕ → ℕ → ℕ

@@ -3,7 +3,7 @@
 ghost use mathlib.Core.Path.{_≡_};
 ghost use Prim.Native.Nat.{_^_, _<_, _≤_};
 ghost use Rattle.sequences.specs.Sequences.{rb};
-ghost use Rattle.sequences.specs.Board as board;
+ghost use Rattle.sequences.specs.SlotOrder as board;
 ghost use Rattle.sequences.specs.Slots.{slotFrom};
 
 // The 3 lowest binary digits of i, reversed. Each is taken by itself, the highest too, so that the compiler sees that digits are reversed and no more:
@@ -77,9 +77,9 @@ fn leaf(c: usize, p: usize) -> usize
 }
 
 // The position after p in a round of order k.
-fn after(k: usize, p: usize) -> usize
+fn position_after(k: usize, p: usize) -> usize
     requires { ⌜ (k < 64) × (p < 2 ^ k) ⌝ }
-    ensures { λ r. ⌜ r ≡ board.after k p ⌝ }
+    ensures { λ r. ⌜ r ≡ board.positionAfter k p ⌝ }
 {
     if p + 1 < 1 << k { p + 1 } else { 1 }
 }
@@ -101,6 +101,6 @@ pub fn pick(c: usize, p: usize) -> Slot
     Slot {
         leaf: leaf(c, served),
         passed,
-        next: after(digits(c), served),
+        next: position_after(digits(c), served),
     }
 }

@@ -1,7 +1,6 @@
 -- The laws of a table of changes with the tables of over-allocated streams that upper crates cite: it is what the single calls are, in that order; no second
 -- result fits; a kind that is none is answered 7 and changes nothing; an entry's question stays, and so does the record; a refused entry does not stop
--- the rest; a table may be carried out in parts.
--- Assumes nothing.
+-- the rest; a table may be carried out in parts. Assumes nothing.
 use mathlib.Core.Path.{_≡_, refl, sym, ap, _∙_}
 use mathlib.Core.List.{List, [], _∷_, _++_, map}
 use Prim.Native.Nat.{ℕ}
@@ -13,30 +12,29 @@ use Rattle.calls.specs.Answers.{Answer}
 use Rattle.waiting.specs.declared.Order.{Order}
 use Rattle.orders.specs.declared.Ordered.{Ordered}
 use Rattle.orders.specs.Answers.{orderingAnswer}
-use Rattle.orders.specs.declared.Way.{Way}
-use Rattle.orders.specs.declared.Way.the-variants as way
-use Rattle.orders.specs.Results.{addOrder, removeOrder, changedBy, changedAnswerBy}
-use Rattle.orders.proofs.Laws.{made-says, taken-says}
-use Rattle.shares.specs.States.{State}
+use Rattle.orders.specs.Results.{addOrder, removeOrder}
+use Rattle.orders.proofs.Laws.{change-says}
+use Rattle.shares.specs.States.{BoardTables}
 use Rattle.shares.specs.Checks.{wayOf}
-use Rattle.shares.specs.Results.{overOrder, onBoard, changed, changedState, changedList}
+use Rattle.shares.specs.Results.{overOrder, boardOrder, changed, changedState, changedList}
 use Rattle.shares.specs.Promises.{Orders}
 use Rattle.shares.proofs.Laws.{change-refused}
 use Rattle.batch.specs.declared.Entry.{Entry}
 use Rattle.batch.specs.declared.Carried.{Carried}
 use Rattle.batch.specs.Entries.{question, answering, noted}
 use Rattle.batch.specs.Singles.{notedAll}
+use Rattle.batch.proofs.Laws as batch
 use Rattle.share_batch.specs.Entries.{ordered, orderedState, orderedList, carried, before, batchOf}
 use Rattle.share_batch.specs.Promises.{Carries, Batches}
 use Rattle.share_batch.specs.Singles.{Singles, ends, adds, removes, overs, skips}
 
 -- ---- entry by entry
 
-module _ (a b : Drive) (s : State) (L : List ℕ) where
-  pub carry-unique : (e : Entry) {r p : Carried} {t u : State} {F G : List ℕ} → Carries a b s L e r t F → Carries a b s L e p u G → (r ≡ p) × (t ≡ u) × (F ≡ G)
+module _ (a b : Drive) (s : BoardTables) (L : List ℕ) where
+  pub carry-unique : (e : Entry) {r p : Carried} {t u : BoardTables} {F G : List ℕ} → Carries a b s L e r t F → Carries a b s L e p u G → (r ≡ p) × (t ≡ u) × (F ≡ G)
   carry-unique e p q = (unique (p .0) (q .0), unique (p .1) (q .1), unique (p .2) (q .2))
 
-  pub batch-unique : (T : List Entry) {r p : Drive} {t u : State} {F G : List ℕ} {U X : List Entry} → Batches a b s L T r t F U → Batches a b s L T p u G X
+  pub batch-unique : (T : List Entry) {r p : Drive} {t u : BoardTables} {F G : List ℕ} {U X : List Entry} → Batches a b s L T r t F U → Batches a b s L T p u G X
       → (r ≡ p) × (t ≡ u) × (F ≡ G) × (U ≡ X)
   batch-unique T p q = (unique (p .0) (q .0), unique (p .1) (q .1), unique (p .2) (q .2), unique (p .3) (q .3))
 
@@ -46,23 +44,23 @@ module _ (a b : Drive) (s : State) (L : List ℕ) where
   batch-none = refl
 
   -- and another does what its first entry does, and then what the rest does.
-  pub batch-next : (e : Entry) (T : List Entry) {r : Carried} {t : State} {F : List ℕ} → Carries a b s L e r t F
+  pub batch-next : (e : Entry) (T : List Entry) {r : Carried} {t : BoardTables} {F : List ℕ} → Carries a b s L e r t F
       → batchOf a b s L (e ∷ T) ≡ before (r .entry) (batchOf (r .drive) b t F T)
   unfolding batchOf
   batch-next e T p = rw (p .0, p .1, p .2) refl
 
   -- What an entry does: the call that it asks for,
-  pub carry-adds : (e : Entry) {r : Ordered} {t : State} {F : List ℕ} → e .kind ≡ 1 → Orders a b s L (addOrder (e .name) (e .weight)) r t F
+  pub carry-adds : (e : Entry) {r : Ordered} {t : BoardTables} {F : List ℕ} → e .kind ≡ 1 → Orders a b s L (addOrder (e .name) (e .weight)) r t F
       → Carries a b s L e (record { drive = r .drive; entry = noted e (orderingAnswer (r .answer)) }) t F
   unfolding carried ordered orderedState orderedList
   carry-adds e k p = let y = eq-eqb (e .kind) 1 k in (rw (y, p .0) refl, rw y (p .2), rw y (p .3))
 
-  pub carry-removes : (e : Entry) {r : Ordered} {t : State} {F : List ℕ} → e .kind ≡ 2 → Orders a b s L (removeOrder (e .name)) r t F
+  pub carry-removes : (e : Entry) {r : Ordered} {t : BoardTables} {F : List ℕ} → e .kind ≡ 2 → Orders a b s L (removeOrder (e .name)) r t F
       → Carries a b s L e (record { drive = r .drive; entry = noted e (orderingAnswer (r .answer)) }) t F
   unfolding carried ordered orderedState orderedList
   carry-removes e k p = rw k (rw (p .0) refl, p .2, p .3)
 
-  pub carry-overs : (e : Entry) {r : Ordered} {t : State} {F : List ℕ} → e .kind ≡ 3 → Orders a b s L (overOrder (e .name) (e .weight)) r t F
+  pub carry-overs : (e : Entry) {r : Ordered} {t : BoardTables} {F : List ℕ} → e .kind ≡ 3 → Orders a b s L (overOrder (e .name) (e .weight)) r t F
       → Carries a b s L e (record { drive = r .drive; entry = noted e (orderingAnswer (r .answer)) }) t F
   unfolding carried ordered orderedState orderedList
   carry-overs e k p = rw k (rw (p .0) refl, p .2, p .3)
@@ -77,7 +75,7 @@ module _ (a b : Drive) (s : State) (L : List ℕ) where
 -- ---- the single calls, in that order
 
 -- A table leaves the record, the board, the tables and the list that single calls lead to, and their answers in its places.
-pub batch-singles : (b : Drive) {a x : Drive} {s u : State} {L F : List ℕ} {T : List Entry} {ss : List Answer} → Singles (λ d. Orders d b) a s L T x u F ss
+pub batch-singles : (b : Drive) {a x : Drive} {s u : BoardTables} {L F : List ℕ} {T : List Entry} {ss : List Answer} → Singles (λ d. Orders d b) a s L T x u F ss
     → batchOf a b s L T ≡ record { drive = x; state = u; list = F; table = notedAll T ss }
 unfolding notedAll
 batch-singles b {a} {s = s} {L = L} ends = batch-none a b s L
@@ -89,24 +87,15 @@ batch-singles b {a} {s = s} {L = L} (skips {e = e} {T} i j k q) = batch-next a b
 -- ---- there are such calls for every table
 
 by-kind : (e : Entry) {P : Type 0} → (e .kind ≡ 1 → P) → (e .kind ≡ 2 → P) → (e .kind ≡ 3 → P) → ((e .kind ≡ 1 → ⊥) → (e .kind ≡ 2 → ⊥) → (e .kind ≡ 3 → ⊥) → P) → P
-by-kind e f g h n = by-bool (eqb (e .kind) 1)
-    (λ t. f (eqb-true (e .kind) 1 t))
-    (λ i. by-bool (eqb (e .kind) 2)
-    (λ t. g (eqb-true (e .kind) 2 t))
-    (λ j. by-bool (eqb (e .kind) 3) (λ t. h (eqb-true (e .kind) 3 t)) (λ k. n (eqb-false (e .kind) 1 i) (eqb-false (e .kind) 2 j) (eqb-false (e .kind) 3 k))))
+by-kind e f g h n = batch.by-kind e f g (λ i j. by-bool (eqb (e .kind) 3) (λ t. h (eqb-true (e .kind) 3 t)) (λ k. n i j (eqb-false (e .kind) 3 k)))
 
-abbrev Leads : Drive → Drive → State → List ℕ → List Entry → Type 0
-Leads a b s L T = (x : Drive) × (u : State) × (F : List ℕ) × (ss : List Answer) × Singles (λ d. Orders d b) a s L T x u F ss
+abbrev Leads : Drive → Drive → BoardTables → List ℕ → List Entry → Type 0
+Leads a b s L T = (x : Drive) × (u : BoardTables) × (F : List ℕ) × (ss : List Answer) × Singles (λ d. Orders d b) a s L T x u F ss
 
-change-says : (k : Way) (d : Drive) (B L : List ℕ) (o : Order) → orderingAnswer (changedBy k d B L o .answer) ≡ changedAnswerBy k d B L o
-change-says (way.Refused r) d B L o = refl
-change-says way.Wait d B L o = taken-says L
-change-says way.Now d B L o = made-says d B o
+changes : (a b : Drive) (s : BoardTables) (L : List ℕ) (o : Order) → Orders a b s L o (changed a b s L o) (changedState a b s L o) (changedList a b s L o)
+changes a b s L o = (refl, change-says (wayOf a b s L o) a (s .board) L (boardOrder o), refl, refl)
 
-changes : (a b : Drive) (s : State) (L : List ℕ) (o : Order) → Orders a b s L o (changed a b s L o) (changedState a b s L o) (changedList a b s L o)
-changes a b s L o = (refl, change-says (wayOf a b s L o) a (s .board) L (onBoard o), refl, refl)
-
-pub singles-are : (a b : Drive) (s : State) (L : List ℕ) (T : List Entry) → Leads a b s L T
+pub singles-are : (a b : Drive) (s : BoardTables) (L : List ℕ) (T : List Entry) → Leads a b s L T
 singles-are a b s L [] = (a, s, L, [], ends)
 singles-are a b s L (e ∷ T) = by-kind e
     (λ k. let o = addOrder (e .name) (e .weight) in let q = singles-are (changed a b s L o .drive) b (changedState a b s L o) (changedList a b s L o) T in (q .0, q .1, q .2, _, adds k (changes a b s L o) (q .4)))
@@ -116,12 +105,12 @@ singles-are a b s L (e ∷ T) = by-kind e
 
 -- ---- what stays
 
-pub questions-stay : (a b : Drive) (s : State) (L : List ℕ) (T : List Entry) → map question (batchOf a b s L T .table) ≡ map question T
+pub questions-stay : (a b : Drive) (s : BoardTables) (L : List ℕ) (T : List Entry) → map question (batchOf a b s L T .table) ≡ map question T
 unfolding batchOf carried
 questions-stay a b s L [] = refl
 questions-stay a b s L (e ∷ T) = ap (λ (qs : List Order). question e ∷ qs) (questions-stay (carried a b s L e .drive) b (orderedState a b s L e) (orderedList a b s L e) T)
 
-carry-record : (a b : Drive) (s : State) (L : List ℕ) (e : Entry) → carried a b s L e .drive ≡ a
+carry-record : (a b : Drive) (s : BoardTables) (L : List ℕ) (e : Entry) → carried a b s L e .drive ≡ a
 unfolding carried ordered
 carry-record a b s L e = by-kind e
     (λ k. rw (eq-eqb (e .kind) 1 k) refl)
@@ -130,15 +119,15 @@ carry-record a b s L e = by-kind e
     (λ i j k. rw (ne-eqb (e .kind) 1 i, ne-eqb (e .kind) 2 j, ne-eqb (e .kind) 3 k) refl)
 
 -- No change moves a record, so the record that comes back is the one that was passed.
-pub record-stays : (a b : Drive) (s : State) (L : List ℕ) (T : List Entry) → batchOf a b s L T .drive ≡ a
+pub record-stays : (a b : Drive) (s : BoardTables) (L : List ℕ) (T : List Entry) → batchOf a b s L T .drive ≡ a
 unfolding batchOf
 record-stays a b s L [] = refl
 record-stays a b s L (e ∷ T) = record-stays (carried a b s L e .drive) b (orderedState a b s L e) (orderedList a b s L e) T ∙ carry-record a b s L e
 
 -- ---- a refused entry
 
-module _ (a b : Drive) (s : State) (L : List ℕ) (e : Entry) (some : carried a b s L e .entry .number ≡ 0 → ⊥) (none : carried a b s L e .entry .number ≡ 13 → ⊥) where
-  left-alone : (o : Order) {r : Ordered} {t : State} {F : List ℕ} → Orders a b s L o r t F → Carries a b s L e (record { drive = r .drive; entry = noted e (orderingAnswer (r .answer)) }) t F
+module _ (a b : Drive) (s : BoardTables) (L : List ℕ) (e : Entry) (some : carried a b s L e .entry .number ≡ 0 → ⊥) (none : carried a b s L e .entry .number ≡ 13 → ⊥) where
+  left-alone : (o : Order) {r : Ordered} {t : BoardTables} {F : List ℕ} → Orders a b s L o r t F → Carries a b s L e (record { drive = r .drive; entry = noted e (orderingAnswer (r .answer)) }) t F
       → (s ≡ orderedState a b s L e) × (L ≡ orderedList a b s L e)
   left-alone o p q =
       let n = ap (λ (c : Carried). c .entry .number) (q .0) in
@@ -162,7 +151,7 @@ module _ (a b : Drive) (s : State) (L : List ℕ) (e : Entry) (some : carried a 
 
 -- ---- in parts
 
-pub in-parts : (a b : Drive) (s : State) (L : List ℕ) (T U : List Entry)
+pub in-parts : (a b : Drive) (s : BoardTables) (L : List ℕ) (T U : List Entry)
     → batchOf a b s L (T ++ U) ≡ (let l = batchOf a b s L T in let m = batchOf (l .drive) b (l .state) (l .list) U in record { drive = m .drive; state = m .state; list = m .list; table = l .table ++ m .table })
 unfolding batchOf
 in-parts a b s L [] U = refl

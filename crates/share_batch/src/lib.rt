@@ -27,34 +27,16 @@ fn order(
 ) -> Ordered
     ensures { λ r. ⌜ (r ≡ ordered own other (lent (now (board .entry)) (now (rates .entry)) (now (owed .entry)) (now («owed_other» .entry))) (now (list .entry)) entry) × (lent (now (board .exit)) (now (rates .exit)) (now (owed .exit)) (now («owed_other» .exit)) ≡ orderedState own other (lent (now (board .entry)) (now (rates .entry)) (now (owed .entry)) (now («owed_other» .entry))) (now (list .entry)) entry) × (now (list .exit) ≡ orderedList own other (lent (now (board .entry)) (now (rates .entry)) (now (owed .entry)) (now («owed_other» .entry))) (now (list .entry)) entry) ⌝ }
 {
+    let name = entry.name;
+    let w = entry.weight;
     if entry.kind == Entry::ADD {
-        return shares::add(
-            own,
-            other,
-            board,
-            list,
-            rates,
-            owed,
-            owed_other,
-            entry.name,
-            entry.weight,
-        );
+        return shares::add(own, other, board, list, rates, owed, owed_other, name, w);
     }
     if entry.kind == Entry::REMOVE {
-        return shares::remove(own, other, board, list, rates, owed, owed_other, entry.name);
+        return shares::remove(own, other, board, list, rates, owed, owed_other, name);
     }
     if entry.kind == OVER {
-        return shares::over(
-            own,
-            other,
-            board,
-            list,
-            rates,
-            owed,
-            owed_other,
-            entry.name,
-            entry.weight,
-        );
+        return shares::over(own, other, board, list, rates, owed, owed_other, name, w);
     }
     Ordered {
         drive: own,

@@ -1,11 +1,11 @@
--- Where the tables are long enough and zero, open, read and save of each form of sheet, round, report and the fresh layout with tables are those without: they find, answer and leave the
--- same, and the tables stay as they are.
--- Assumes nothing.
+-- Where the tables are long enough and zero, open, read and save of each form of sheet, round, report and the fresh layout with tables are those
+-- without: they find, answer and leave the same, and the tables stay as they are. Assumes nothing.
 use mathlib.Core.Path.{_≡_, refl, _∙_}
-use mathlib.Core.Bool.{Bool, true, false, not, _||_}
+use mathlib.Core.Bool.{true, false, not}
 use mathlib.Core.List.{List, [], _∷_, _++_}
 use Prim.Native.Nat.{ℕ, max}
 use lib.ListN.{length, drop}
+use Rattle.general.proofs.Laws.{or-false}
 use Rattle.pieces.specs.Board.{good}
 use Rattle.pieces.specs.Fresh.{fresh}
 use Rattle.tables.proofs.Laws.{Zero, zero-intro, plain-fits, plain-cleared, plain-settled, plain-round, plain-weight}
@@ -27,9 +27,9 @@ use Rattle.drives.specs.Checks as pair
 use Rattle.drives.specs.Checks.{pairCheck}
 use Rattle.drives.specs.Results as plain
 use Rattle.drives.proofs.Laws.{start-both}
-use Rattle.shares.specs.States.{State, lent, fitting}
-use Rattle.shares.specs.Checks.{tooFew, shareCheck, lookCheck}
-use Rattle.share_boards.specs.Keeping as keeping
+use Rattle.shares.specs.States.{BoardTables, lent, fitting}
+use Rattle.shares.specs.Checks.{tooFew, placedCheck, shareCheck, lookCheck}
+use Rattle.share_boards.specs.Opening as opening
 use Rattle.share_boards.specs.Looking as looking
 use Rattle.share_boards.specs.Starting as starting
 use Rattle.shares.proofs.Laws.{share-ready, ready-change}
@@ -38,33 +38,29 @@ use Rattle.share_boards.proofs.Starts.{start-both-there, start-ready, s
 
 -- ---- open and read: C leaves, and tables whose first C entries are 0
 
-pub record Bare (C : ℕ) (s : State) : Type 0 where
+pub record Bare (C : ℕ) (s : BoardTables) : Type 0 where
   pub long : tooFew C s ≡ false
   pub rates : Zero C (s .rates)
   pub owed : Zero C (s .owed)
   pub other : Zero C (s .other)
 
-or-nothing : (t : Bool) → (t || false) ≡ t
-or-nothing true = refl
-or-nothing false = refl
-
-cleared-bare : (C : ℕ) (s : State) → Bare C s → (D : List ℕ) → keeping.cleared C D s ≡ lent D (s .rates) (s .owed) (s .other)
+cleared-bare : (C : ℕ) (s : BoardTables) → Bare C s → (D : List ℕ) → opening.cleared C D s ≡ lent D (s .rates) (s .owed) (s .other)
 cleared-bare C s n D = rw (plain-cleared C (s .rates) (n .rates), plain-cleared C (s .owed) (n .owed), plain-cleared C (s .other) (n .other)) refl
 
-either-lent : (k : Check) (D : List ℕ) (s : State) → ifClear k (lent D (s .rates) (s .owed) (s .other)) s ≡ lent (ifClear k D (s .board)) (s .rates) (s .owed) (s .other)
+either-lent : (k : Check) (D : List ℕ) (s : BoardTables) → ifClear k (lent D (s .rates) (s .owed) (s .other)) s ≡ lent (ifClear k D (s .board)) (s .rates) (s .owed) (s .other)
 either-lent Clear D s = refl
 either-lent (Refused r) D s = refl
 
-module _ (C : ℕ) (s : State) (L : List ℕ) (n : Bare C s) where
-  opening-same : keeping.openingCheck C s (length L) ≡ single.lentCheck C (s .board) (length L)
-  unfolding keeping.openingCheck keeping.lentCheck single.lentCheck
-  opening-same = rw (n .long, or-nothing (tooShort (length L))) refl
+module _ (C : ℕ) (s : BoardTables) (L : List ℕ) (n : Bare C s) where
+  opening-same : opening.openingCheck C s (length L) ≡ single.lentCheck C (s .board) (length L)
+  unfolding opening.openingCheck opening.lentCheck single.lentCheck
+  opening-same = rw (n .long, or-false (tooShort (length L))) refl
 
   pub open-agrees :
-      (keeping.opened C s (length L) ≡ alone.opened C (s .board) (length L))
-      × (keeping.openedAnswer C s (length L) ≡ alone.openedAnswer C (s .board) (length L))
-      × (keeping.openedState C s (length L) ≡ lent (alone.openedBoard C (s .board) (length L)) (s .rates) (s .owed) (s .other))
-      × (keeping.openedList C s L ≡ alone.openedList C (s .board) L)
+      (opening.opened C s (length L) ≡ alone.opened C (s .board) (length L))
+      × (opening.openedAnswer C s (length L) ≡ alone.openedAnswer C (s .board) (length L))
+      × (opening.openedState C s (length L) ≡ lent (alone.openedBoard C (s .board) (length L)) (s .rates) (s .owed) (s .other))
+      × (opening.openedList C s L ≡ alone.openedList C (s .board) L)
   open-agrees = (
     rw opening-same refl,
     rw opening-same refl,
@@ -72,16 +68,16 @@ module _ (C : ℕ) (s : State) (L : List ℕ) (n : Bare C s) where
     rw opening-same refl,
   )
 
-module _ (form : Form) (S : List ℕ) (s : State) (L : List ℕ) (n : Bare (capacityIn S) s) where
-  reading-same : keeping.readingCheckAs form S s (length L) ≡ single.readingCheck form S (s .board) (length L)
-  unfolding keeping.readingCheckAs keeping.lentCheck single.readingCheck
-  reading-same = rw (n .long, or-nothing (tooShort (length L))) refl
+module _ (form : Form) (S : List ℕ) (s : BoardTables) (L : List ℕ) (n : Bare (capacityIn S) s) where
+  reading-same : opening.readingCheckAs form S s (length L) ≡ single.readingCheck form S (s .board) (length L)
+  unfolding opening.readingCheckAs opening.lentCheck single.readingCheck
+  reading-same = rw (n .long, or-false (tooShort (length L))) refl
 
   reads-agree :
-      (keeping.loadedAs form S s (length L) ≡ alone.loadedAs form S (s .board) (length L))
-      × (keeping.loadedAnswerAs form S s (length L) ≡ alone.loadedAnswerAs form S (s .board) (length L))
-      × (keeping.loadedStateAs form S s (length L) ≡ lent (alone.loadedBoardAs form S (s .board) (length L)) (s .rates) (s .owed) (s .other))
-      × (keeping.loadedListAs form S s L ≡ alone.loadedListAs form S (s .board) L)
+      (opening.loadedAs form S s (length L) ≡ alone.loadedAs form S (s .board) (length L))
+      × (opening.loadedAnswerAs form S s (length L) ≡ alone.loadedAnswerAs form S (s .board) (length L))
+      × (opening.loadedStateAs form S s (length L) ≡ lent (alone.loadedBoardAs form S (s .board) (length L)) (s .rates) (s .owed) (s .other))
+      × (opening.loadedListAs form S s L ≡ alone.loadedListAs form S (s .board) L)
   reads-agree =
       let D = form .leaves (capacityIn S) S ++ drop (capacityIn S) (s .board) in (
         rw reading-same refl,
@@ -90,31 +86,31 @@ module _ (form : Form) (S : List ℕ) (s : State) (L : List ℕ) (n : Bare (capa
         rw reading-same refl,
       )
 
-module _ (S : List ℕ) (s : State) (L : List ℕ) (n : Bare (capacityIn S) s) where
+module _ (S : List ℕ) (s : BoardTables) (L : List ℕ) (n : Bare (capacityIn S) s) where
   pub read-agrees :
-      (keeping.loaded S s (length L) ≡ alone.loaded S (s .board) (length L))
-      × (keeping.loadedAnswer S s (length L) ≡ alone.loadedAnswer S (s .board) (length L))
-      × (keeping.loadedState S s (length L) ≡ lent (alone.loadedBoard S (s .board) (length L)) (s .rates) (s .owed) (s .other))
-      × (keeping.loadedList S s L ≡ alone.loadedList S (s .board) L)
+      (opening.loaded S s (length L) ≡ alone.loaded S (s .board) (length L))
+      × (opening.loadedAnswer S s (length L) ≡ alone.loadedAnswer S (s .board) (length L))
+      × (opening.loadedState S s (length L) ≡ lent (alone.loadedBoard S (s .board) (length L)) (s .rates) (s .owed) (s .other))
+      × (opening.loadedList S s L ≡ alone.loadedList S (s .board) L)
   read-agrees = reads-agree leafForm S s L n
 
   pub read-pieces-agrees :
-      (keeping.loadedAs pieceForm S s (length L) ≡ alone.loadedAs pieceForm S (s .board) (length L))
-      × (keeping.loadedAnswerAs pieceForm S s (length L) ≡ alone.loadedAnswerAs pieceForm S (s .board) (length L))
-      × (keeping.loadedStateAs pieceForm S s (length L) ≡ lent (alone.loadedBoardAs pieceForm S (s .board) (length L)) (s .rates) (s .owed) (s .other))
-      × (keeping.loadedListAs pieceForm S s L ≡ alone.loadedListAs pieceForm S (s .board) L)
+      (opening.loadedAs pieceForm S s (length L) ≡ alone.loadedAs pieceForm S (s .board) (length L))
+      × (opening.loadedAnswerAs pieceForm S s (length L) ≡ alone.loadedAnswerAs pieceForm S (s .board) (length L))
+      × (opening.loadedStateAs pieceForm S s (length L) ≡ lent (alone.loadedBoardAs pieceForm S (s .board) (length L)) (s .rates) (s .owed) (s .other))
+      × (opening.loadedListAs pieceForm S s L ≡ alone.loadedListAs pieceForm S (s .board) L)
   read-pieces-agrees = reads-agree pieceForm S s L n
 
 -- ---- two drives: a good board, and tables whose first C entries are 0
 
-pub record Blank (a b : Drive) (s : State) : Type 0 where
+pub record Blank (a b : Drive) (s : BoardTables) : Type 0 where
   pub long : tooFew (max (a .capacity) (b .capacity)) s ≡ false
   pub sound : good (a .capacity) (s .board) ≡ true
   pub rates : Zero (a .capacity) (s .rates)
   pub owed : Zero (a .capacity) (s .owed)
   pub other : Zero (a .capacity) (s .other)
 
-module _ (a b : Drive) (s : State) (n : Blank a b s) where
+module _ (a b : Drive) (s : BoardTables) (n : Blank a b s) where
   blank-fit : fitting (a .capacity) s ≡ true
   blank-fit = plain-fits (a .capacity) (s .board) (s .rates) (s .owed) (s .other) (n .rates) (n .owed) (n .other) ∙ n .sound
 
@@ -123,11 +119,11 @@ module _ (a b : Drive) (s : State) (n : Blank a b s) where
   look-same = rw (n .long, blank-fit) (then-none (pairCheck a b (s .board) false))
 
   pub start-same : starting.startCheck a b s ≡ pair.startCheck a b (s .board)
-  unfolding starting.placedCheck starting.fitCheck pair.startCheck
+  unfolding placedCheck pair.startCheck
   start-same = rw (n .long, blank-fit) refl
 
   pub level-agrees : starting.levelCheck a b s ≡ pair.levelCheck a b (s .board)
-  unfolding starting.placedCheck starting.fitCheck pair.levelCheck
+  unfolding placedCheck pair.levelCheck
   level-agrees = rw (n .long, blank-fit) refl
 
   -- ---- round

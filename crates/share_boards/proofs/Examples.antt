@@ -4,11 +4,11 @@ use mathlib.Core.Path.{_≡_, refl}
 use mathlib.Core.List.{List, [], _∷_}
 use Prim.Native.Nat.{ℕ}
 use lib.ListN.{replicate}
-use Rattle.sequences.specs.Board.{digits, leafAt, servedFrom, nextFrom}
+use Rattle.sequences.specs.SlotOrder.{digits, leafAt, servedFrom, nextFrom}
 use Rattle.pieces.specs.Board.{sound, single, pieces, nth, whole, uniform, weight, sum}
 use Rattle.pieces.specs.Placing.{fill, first, fit, spot, put, place}
 use Rattle.pieces.specs.Listing.{named}
-use Rattle.pieces.specs.Fresh.{rising, rank, ranks, laid, largest}
+use Rattle.pieces.specs.Fresh.{rising, rank, ranks, allPlaced, largestName}
 use Rattle.tables.specs.Sharing.{fits, allZero}
 use Rattle.tables.specs.Settling.{settledTable, clearedTable}
 use Rattle.tables.specs.Turns.{roundServes, servedWeight}
@@ -22,11 +22,11 @@ use Rattle.calls.specs.Spacing.{spacingIn}
 use Rattle.sheets.specs.Sheet.{blocks}
 use Rattle.sheets.specs.Entries.{entryBlocks}
 use Rattle.drives.specs.Checks.{sizeCheck, placeCheck, pairCheck, bothStart}
-use Rattle.shares.specs.States.{State, lent}
-use Rattle.shares.specs.Checks.{tooFew, shareCheck}
-use Rattle.share_boards.specs.Keeping.{lentCheck, openingCheck, openedState}
+use Rattle.shares.specs.States.{BoardTables, lent}
+use Rattle.shares.specs.Checks.{tooFew, fitCheck, placedCheck, shareCheck}
+use Rattle.share_boards.specs.Opening.{lentCheck, openingCheck, openedState}
 use Rattle.share_boards.specs.Looking.{roundingCheck, reportingCheck, roundedOutput, reportedAnswer}
-use Rattle.share_boards.specs.Starting.{fitCheck, placedCheck, startCheck, levelCheck, savingCheckAs, savingCheck, savingPiecesCheck, savedAnswer, afresh, refreshedState}
+use Rattle.share_boards.specs.Starting.{startCheck, levelCheck, savingCheckAs, savingCheck, savingPiecesCheck, savedAnswer, afresh, refreshedState}
 
 abbrev first-slot : ℕ → Drive
 first-slot C = driveAt C 1
@@ -35,7 +35,7 @@ abbrev zeros : List ℕ
 zeros = 0 ∷ 0 ∷ 0 ∷ 0 ∷ []
 
 -- C = 4, r = 3, a deficit of -1, which is in range.
-abbrev nine : State
+abbrev nine : BoardTables
 nine = lent (9 ∷ 9 ∷ 9 ∷ 9 ∷ []) (3 ∷ 0 ∷ 0 ∷ 0 ∷ []) (1 ∷ 0 ∷ 0 ∷ 0 ∷ []) zeros
 
 -- Round takes the deficit as 0 and writes nothing beyond the round.
@@ -83,7 +83,7 @@ kind = refl
 relaid :
     refreshedState (first-slot 4) (first-slot 4) (lent (7 ∷ 7 ∷ 5 ∷ 5 ∷ 1 ∷ []) (2 ∷ 0 ∷ 0 ∷ 0 ∷ 3 ∷ []) (1 ∷ 0 ∷ 0 ∷ 0 ∷ []) zeros)
     ≡ lent (5 ∷ 5 ∷ 7 ∷ 7 ∷ 1 ∷ []) (0 ∷ 0 ∷ 2 ∷ 0 ∷ 3 ∷ []) (0 ∷ 0 ∷ 1 ∷ 0 ∷ []) zeros
-unfolding placedCheck fitCheck bothStart tooFew pairCheck sizeCheck placeCheck applies digits fits sound single pieces whole uniform weight afresh settledTable rising rank ranks laid largest nth fill first fit spot put place
+unfolding placedCheck fitCheck bothStart tooFew pairCheck sizeCheck placeCheck applies digits fits sound single pieces whole uniform weight afresh settledTable rising rank ranks allPlaced largestName nth fill first fit spot put place
 relaid = refl
 
 -- Open clears the first C entries of every table; where one is too short nothing is changed.

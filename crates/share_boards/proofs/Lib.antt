@@ -1,5 +1,5 @@
 -- What upper crates cite is Laws. The rest is inner; Examples has calls worked by hand.
-mod Lends
+mod Openings
 mod Looks
 mod Starts
 mod Agreeing

@@ -1,18 +1,17 @@
--- What the code of round and report needs once their checks find nothing.
--- Assumes nothing.
+-- What the code of round and report needs once their checks find nothing. Assumes nothing.
 use mathlib.Core.Path.{_≡_, refl, _∙_}
 use mathlib.Core.Bool.{false}
-use mathlib.Core.List.{List, [], _∷_}
-use Prim.Native.Nat.{ℕ, _-_, _^_, _≤_, _<_}
+use mathlib.Core.List.{[], _∷_}
+use Prim.Native.Nat.{ℕ, _-_, _≤_, _<_}
 use native.Mathlib.Omega.{arith}
 use lib.Count.{ones}
 use lib.Dec.{eqb}
 use lib.ListN.{getD}
-use borrow.Author.Tests.{le-ltb, eqb-false}
+use borrow.Author.Tests.{eqb-false}
 use Rattle.general.proofs.Laws.{by-bool}
-use Rattle.sequences.specs.Board.{digits, Position}
-use Rattle.sequences.proofs.Laws.{digits-lt, first-position}
-use Rattle.pieces.specs.Board.{weight, number}
+use Rattle.sequences.specs.SlotOrder.{Position}
+use Rattle.sequences.proofs.Laws.{first-position}
+use Rattle.pieces.specs.Board.{weight, pieceCount}
 use Rattle.pieces.proofs.Laws.{weight-le, pieces-ones}
 use Rattle.tables.specs.Sharing.{lowest}
 use Rattle.tables.specs.Turns.{Shared, servedWeight, roundServes}
@@ -21,20 +20,16 @@ use Rattle.calls.specs.declared.Drive.{Drive}
 use Rattle.calls.specs.declared.Check.the-variants.{Clear}
 use Rattle.calls.specs.Records.{driveAt}
 use Rattle.calls.specs.Spacing.{spacingIn}
-use Rattle.calls.specs.Refusals.{removeCheck, roundCheck, heldCheck, positionCheck}
-use Rattle.calls.proofs.Laws.{Sized, first-clear, then-clear, open-sized, slot-sized, slot-parts, remove-parts, remove-clear, remove-held, round-room}
-use Rattle.shares.specs.States.{State}
+use Rattle.calls.specs.Refusals.{removeCheck, roundCheck, heldCheck}
+use Rattle.calls.proofs.Laws.{Sized, first-clear, then-clear, slot-sized, remove-parts, remove-clear, remove-held, round-room, slot-first}
+use Rattle.shares.specs.States.{BoardTables}
 use Rattle.shares.specs.Checks.{lookCheck, Ready}
 use Rattle.share_boards.specs.Looking.{roundingCheck, reportingCheck}
 use Rattle.shares.proofs.Laws.{share-ready, ready-change}
 
 -- ---- a record at the start of a round
 
-position-first : (C : ℕ) → 0 < C → positionCheck C 1 ≡ Clear
-unfolding positionCheck
-position-first C some = rw (le-ltb (2 ^ digits C - 1) 1 (omega (arith, digits-lt C))) refl
-
-module _ (a : Drive) (s : State) (r : Ready a s) where
+module _ (a : Drive) (s : BoardTables) (r : Ready a s) where
   pub ready-sized : Sized (a .capacity) (s .board)
   ready-sized = slot-sized a (s .board) (r .clear)
 
@@ -47,7 +42,7 @@ module _ (a : Drive) (s : State) (r : Ready a s) where
   -- The same board is ready for a record at the start of a round,
   pub ready-first : Ready (driveAt (a .capacity) 1) s
   ready-first = record {
-    clear = slot-parts (driveAt (a .capacity) 1) (s .board) ∙ rw (open-sized (a .capacity) (s .board) ready-sized, position-first (a .capacity) (ready-sized .some)) refl;
+    clear = slot-first (a .capacity) (s .board) ready-sized;
     rates = r .rates;
     owed = r .owed;
     other = r .other;
@@ -60,7 +55,7 @@ module _ (a : Drive) (s : State) (r : Ready a s) where
 
 -- ---- round
 
-module _ (a b : Drive) (s : State) (n : ℕ) (e : roundingCheck a b s n ≡ Clear) where
+module _ (a b : Drive) (s : BoardTables) (n : ℕ) (e : roundingCheck a b s n ≡ Clear) where
   pub rounding-ready : Ready a s
   unfolding roundingCheck
   rounding-ready = share-ready a b s false (first-clear (lookCheck a b s) (roundCheck a (s .board) n) e)
@@ -74,12 +69,12 @@ module _ (a b : Drive) (s : State) (n : ℕ) (e : roundingCheck a b s n ≡ Clea
 -- ---- report
 
 -- What is known of the name.
-pub record Reportable (a : Drive) (s : State) (x : ℕ) : Type 0 where
+pub record Reportable (a : Drive) (s : BoardTables) (x : ℕ) : Type 0 where
   pub ready : Ready a s
   pub named : x ≡ 0 → ⊥
   pub held : 0 < weight (a .capacity) (s .board) x
 
-pub reporting-clear : (a b : Drive) (s : State) (x : ℕ) → reportingCheck a b s x ≡ Clear → Reportable a s x
+pub reporting-clear : (a b : Drive) (s : BoardTables) (x : ℕ) → reportingCheck a b s x ≡ Clear → Reportable a s x
 unfolding reportingCheck
 reporting-clear a b s x e =
     let r = share-ready a b s false (first-clear (lookCheck a b s) (heldCheck (a .capacity) (s .board) x) e) in
@@ -88,7 +83,7 @@ reporting-clear a b s x e =
     record { ready = r; named = remove-clear (driveAt (a .capacity) 1) (s .board) x k .named; held = omega arith }
 
 -- A stream is served at most once at each of its leaves.
-pub served-le : (a : Drive) (s : State) (x : ℕ) → Reportable a s x → servedWeight (a .capacity) (s .board) (s .rates) x ≤ a .capacity
+pub served-le : (a : Drive) (s : BoardTables) (x : ℕ) → Reportable a s x → servedWeight (a .capacity) (s .board) (s .rates) x ≤ a .capacity
 unfolding servedWeight
 served-le a s x q =
     let sh = ready-shared a s (q .ready) in
@@ -102,14 +97,11 @@ served-le a s x q =
     rw f (omega (arith, r .holds, w, held-above (getD (s .rates) l 0))))
 
 -- Nor are there more leaves or a wider spacing than the capacity.
-pub count-le : (C : ℕ) (B : List ℕ) (x n : ℕ) → n ≡ weight C B x → n ≤ C
-count-le C B x n e = rw e (weight-le C B x)
-
-pub spaced-le : (a : Drive) (s : State) (x : ℕ) → Reportable a s x → spacingIn x (roundServes (a .capacity) (s .board) (s .rates)) ≤ a .capacity
+pub spaced-le : (a : Drive) (s : BoardTables) (x : ℕ) → Reportable a s x → spacingIn x (roundServes (a .capacity) (s .board) (s .rates)) ≤ a .capacity
 spaced-le a s x q =
     let z = ready-sized a s (q .ready) in
     spacing-most (a .capacity) (s .board) (s .rates) (z .few) (z .some) (ready-shared a s (q .ready) .fit) x (q .named) (q .held)
 
 -- The pieces are told by the leaves.
-pub pieces-told : (a : Drive) (s : State) (x : ℕ) → Reportable a s x → number (a .capacity) (s .board) x ≡ ones (weight (a .capacity) (s .board) x)
+pub pieces-told : (a : Drive) (s : BoardTables) (x : ℕ) → Reportable a s x → pieceCount (a .capacity) (s .board) x ≡ ones (weight (a .capacity) (s .board) x)
 pieces-told a s x q = pieces-ones (a .capacity) (s .board) x (ready-sized a s (q .ready) .few) (ready-shared a s (q .ready) .sound)

@@ -1,6 +1,5 @@
 -- The fresh layout with tables: what it leaves fits, each stream keeps its weight, its r and its deficits; made again it changes nothing; and where two boards hold
--- the same names with the same weights it leaves one board.
--- Assumes nothing.
+-- the same names with the same weights it leaves one board. Assumes nothing.
 use mathlib.Core.Path.{_≡_, refl, sym, ap, _∙_}
 use mathlib.Core.Bool.{Bool, true}
 use mathlib.Core.List.{List, [], _∷_}
@@ -22,15 +21,15 @@ use Rattle.calls.specs.declared.Check.the-variants.{Clear, Refused}
 use Rattle.calls.specs.Refusals.{applies}
 use Rattle.calls.specs.Results.{ifClear}
 use Rattle.drives.specs.Checks.{pairCheck, sizeCheck}
-use Rattle.shares.specs.States.{State, fitting}
-use Rattle.shares.specs.Checks.{tooFew}
-use Rattle.share_boards.specs.Starting.{fitCheck, placedCheck, startCheck, afresh, refreshedState}
+use Rattle.shares.specs.States.{BoardTables, fitting}
+use Rattle.shares.specs.Checks.{tooFew, placedCheck}
+use Rattle.share_boards.specs.Starting.{startCheck, afresh, refreshedState}
 use Rattle.share_boards.proofs.Looks.{ready-sized}
 use Rattle.share_boards.proofs.Starts.{start-ready}
 
 -- ---- what it leaves
 
-module _ (a b : Drive) (s : State) (e : startCheck a b s ≡ Clear) where
+module _ (a b : Drive) (s : BoardTables) (e : startCheck a b s ≡ Clear) where
   -- What it leaves fits,
   pub fresh-fits : fitting (a .capacity) (refreshedState a b s) ≡ true
   unfolding afresh
@@ -97,7 +96,7 @@ settled-twice C B B′ T = settled-still C B′ (settledTable C B B′ T) (λ i 
 
 -- ---- made again
 
-afresh-again : (C : ℕ) (s : State) → C ≤ 4095 → C ≤ length (s .board) → afresh C (afresh C s) ≡ afresh C s
+afresh-again : (C : ℕ) (s : BoardTables) → C ≤ 4095 → C ≤ length (s .board) → afresh C (afresh C s) ≡ afresh C s
 unfolding afresh
 afresh-again C s few long =
     let B = s .board in
@@ -108,19 +107,19 @@ pair-length : (a b : Drive) (B D : List ℕ) (t : Bool) → length D ≡ length 
 unfolding pairCheck sizeCheck applies
 pair-length a b B D t e = rw e refl
 
-few-length : (m C : ℕ) (s : State) → tooFew m (afresh C s) ≡ tooFew m s
+few-length : (m C : ℕ) (s : BoardTables) → tooFew m (afresh C s) ≡ tooFew m s
 unfolding tooFew afresh
 few-length m C s =
     let B = s .board in
     rw (settled-length C B (fresh C B) (s .rates), settled-length C B (fresh C B) (s .owed), settled-length C B (fresh C B) (s .other)) refl
 
-board-length : (C : ℕ) (s : State) → C ≤ 4095 → C ≤ length (s .board) → length (afresh C s .board) ≡ length (s .board)
+board-length : (C : ℕ) (s : BoardTables) → C ≤ 4095 → C ≤ length (s .board) → length (afresh C s .board) ≡ length (s .board)
 unfolding afresh
 board-length C s few long = fresh-length C (s .board) few long
 
-module _ (a b : Drive) (s : State) where
+module _ (a b : Drive) (s : BoardTables) where
   again-clear : startCheck a b s ≡ Clear → startCheck a b (afresh (a .capacity) s) ≡ startCheck a b s
-  unfolding placedCheck fitCheck
+  unfolding placedCheck
   again-clear e =
       let r = start-ready a b s e in
       let z = ready-sized a s r in
@@ -150,7 +149,7 @@ module _ (a b : Drive) (s : State) where
 
 -- ---- equal streams and weights give equal boards, whatever the histories
 
-module _ (a b : Drive) (s : State) (e : startCheck a b s ≡ Clear) (a′ b′ : Drive) (s′ : State) (e′ : startCheck a′ b′ s′ ≡ Clear) (size : a .capacity ≡ a′ .capacity)
+module _ (a b : Drive) (s : BoardTables) (e : startCheck a b s ≡ Clear) (a′ b′ : Drive) (s′ : BoardTables) (e′ : startCheck a′ b′ s′ ≡ Clear) (size : a .capacity ≡ a′ .capacity)
     (same : (x : ℕ) → (x ≡ 0 → ⊥) → weight (a .capacity) (s .board) x ≡ weight (a .capacity) (s′ .board) x) where
   pub fresh-equal : (i : ℕ) → i < a .capacity → getD (refreshedState a b s .board) i 0 ≡ getD (refreshedState a′ b′ s′ .board) i 0
   unfolding afresh

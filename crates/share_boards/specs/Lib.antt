@@ -1,3 +1,3 @@
-pub mod Keeping
+pub mod Opening
 pub mod Looking
 pub mod Starting

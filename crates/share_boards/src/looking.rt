@@ -3,11 +3,10 @@ ghost use mathlib.Core.Path.{_≡_};
 ghost use Rattle.shares.specs.States as states;
 ghost use Rattle.share_boards.specs.Looking as looking;
 use calls::Check;
+use calls::Checked;
 use calls::Drive;
 use calls::Report;
 use calls::Reported;
-use calls::Rounded;
-use calls::Rounding;
 
 // The refusals 1 to 3, 5 and 11, of an output of so many entries.
 fn check_round(
@@ -36,19 +35,19 @@ pub fn round(
     owed: &[u16],
     owed_other: &[u16],
     output: &mut [u16],
-) -> Rounded
+) -> Checked
     ensures { λ r. ⌜ looking.Rounds own other (states.lent (now (board .entry)) (now (rates .entry)) (now (owed .entry)) (now («owed_other» .entry))) (now (output .entry)) r (now (output .exit)) ⌝ }
 {
     match check_round(own, other, board, rates, owed, owed_other, output.len()) {
-        Check::Refused(r) => Rounded {
+        Check::Refused(r) => Checked {
             drive: own,
-            answer: Rounding::Refused(r),
+            answer: Check::Refused(r),
         },
         Check::Clear => {
             tables::turns::write_round(board, own.capacity as usize, rates, output);
-            Rounded {
+            Checked {
                 drive: own,
-                answer: Rounding::Done,
+                answer: Check::Clear,
             }
         }
     }

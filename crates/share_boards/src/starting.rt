@@ -1,17 +1,14 @@
 // Save of each form of sheet and the fresh layout where tables are lent: the calls that are made only where both drives are at one place.
 ghost use mathlib.Core.Path.{_≡_};
-ghost use Prim.Native.Nat.{_*_, _≤_};
-ghost use lib.ListN.{length, replicate};
-ghost use Rattle.pieces.specs.Listing.{namedPieces};
-ghost use Rattle.sheets.specs.Sheet.{blocks};
-ghost use Rattle.sheets.specs.Entries.{entryBlocks};
+ghost use mathlib.Core.Bool.{false};
+ghost use Rattle.sheets.specs.Forms.{roomCheck};
 ghost use Rattle.shares.specs.States as states;
 ghost use Rattle.share_boards.specs.Starting as starting;
 use calls::Check;
+use calls::Checked;
 use calls::Drive;
-use calls::Refreshed;
-use calls::Refreshing;
 use calls::Refusal;
+use sheets::Saving;
 
 // The answer of save: how many bytes it wrote; that an over-allocated stream is held, which no sheet can tell; a refusal.
 pub enum ShareSaving {
@@ -25,45 +22,7 @@ pub struct ShareSaved {
     pub answer: ShareSaving,
 }
 
-// The refusal 5, of the whole board and every table.
-fn check_fit(board: &[u16], c: usize, rates: &[u16], owed: &[u16], owed_other: &[u16]) -> Check
-    requires { ⌜ (c ≤ length (now board)) × (c ≤ length (now rates)) × (c ≤ length (now owed)) × (c ≤ length (now «owed_other»)) × (c ≤ 4095) ⌝ }
-    ensures { λ r. ⌜ r ≡ starting.fitCheck c (states.lent (now (board .entry)) (now (rates .entry)) (now (owed .entry)) (now («owed_other» .entry))) ⌝ }
-{
-    if tables::fitting::fits(board, c, rates, owed, owed_other) {
-        Check::Clear
-    } else {
-        Check::Refused(Refusal::Damaged)
-    }
-}
-
-// The refusals 1 to 5. `there` says that the drives are where the call is made.
-fn check_placed(
-    there: bool,
-    own: Drive,
-    other: Drive,
-    board: &[u16],
-    rates: &[u16],
-    owed: &[u16],
-    owed_other: &[u16],
-) -> Check
-    ensures { λ r. ⌜ r ≡ starting.placedCheck there own other (states.lent (now (board .entry)) (now (rates .entry)) (now (owed .entry)) (now («owed_other» .entry))) ⌝ }
-{
-    let c = drives::larger(own.capacity as usize, other.capacity as usize);
-    let few = shares::lacks(false, c, rates, owed, owed_other);
-    match drives::check_pair(own, other, board, few) {
-        Check::Refused(r) => Check::Refused(r),
-        Check::Clear => {
-            if there {
-                check_fit(board, own.capacity as usize, rates, owed, owed_other)
-            } else {
-                Check::Refused(Refusal::Midround)
-            }
-        }
-    }
-}
-
-// At the start of a round,
+// The refusals 1 to 5, of which 4 is for a drive away from the start of a round.
 fn check_start(
     own: Drive,
     other: Drive,
@@ -75,10 +34,10 @@ fn check_start(
     ensures { λ r. ⌜ r ≡ starting.startCheck own other (states.lent (now (board .entry)) (now (rates .entry)) (now (owed .entry)) (now («owed_other» .entry))) ⌝ }
 {
     let there = drives::both_start(own, other);
-    check_placed(there, own, other, board, rates, owed, owed_other)
+    shares::check_placed(there, own, other, board, rates, owed, owed_other, false)
 }
 
-// and at one position.
+// The refusals 1 to 5, of which 4 is for drives at different positions.
 fn check_level(
     own: Drive,
     other: Drive,
@@ -90,38 +49,27 @@ fn check_level(
     ensures { λ r. ⌜ r ≡ starting.levelCheck own other (states.lent (now (board .entry)) (now (rates .entry)) (now (owed .entry)) (now («owed_other» .entry))) ⌝ }
 {
     let there = own.position == other.position;
-    check_placed(there, own, other, board, rates, owed, owed_other)
+    shares::check_placed(there, own, other, board, rates, owed, owed_other, false)
 }
 
-// How many bytes the sheet of c leaves has.
-fn sheet_bytes(c: usize) -> usize
-    requires { ⌜ c ≤ 4095 ⌝ }
-    ensures { λ r. ⌜ r ≡ 512 * blocks c ⌝ }
+// What the save without tables answers.
+fn plainly(saving: Saving) -> ShareSaving
+    ensures { λ r. ⌜ r ≡ starting.plainly saving ⌝ }
 {
-    512 * ((c + 252) / 253)
+    match saving {
+        Saving::Done(bytes) => ShareSaving::Done(bytes),
+        Saving::Refused(r) => ShareSaving::Refused(r),
+    }
 }
 
-// The refusals 1 to 5 and 11, of an output of so many bytes.
-fn check_save(
-    own: Drive,
-    other: Drive,
-    board: &[u16],
-    rates: &[u16],
-    owed: &[u16],
-    owed_other: &[u16],
-    output: usize,
-) -> Check
-    ensures { λ r. ⌜ r ≡ starting.savingCheck own other (states.lent (now (board .entry)) (now (rates .entry)) (now (owed .entry)) (now («owed_other» .entry))) output ⌝ }
+// The answer while an over-allocated stream is held: 11 for an output that is shorter than the sheet would be, and else 17.
+fn no_sheet(output: usize, size: usize) -> ShareSaving
+    ensures { λ r. ⌜ r ≡ starting.savingBy (roomCheck output size) false size ⌝ }
 {
-    match check_start(own, other, board, rates, owed, owed_other) {
-        Check::Refused(r) => Check::Refused(r),
-        Check::Clear => {
-            if output < sheet_bytes(own.capacity as usize) {
-                Check::Refused(Refusal::Output)
-            } else {
-                Check::Clear
-            }
-        }
+    if output < size {
+        ShareSaving::Refused(Refusal::Output)
+    } else {
+        ShareSaving::Kind
     }
 }
 
@@ -137,7 +85,7 @@ pub fn save(
 ) -> ShareSaved
     ensures { λ r. ⌜ starting.Saves own other (states.lent (now (board .entry)) (now (rates .entry)) (now (owed .entry)) (now («owed_other» .entry))) (now (output .entry)) r (now (output .exit)) ⌝ }
 {
-    match check_save(own, other, board, rates, owed, owed_other, output.len()) {
+    match check_start(own, other, board, rates, owed, owed_other) {
         Check::Refused(r) => ShareSaved {
             drive: own,
             answer: ShareSaving::Refused(r),
@@ -145,60 +93,16 @@ pub fn save(
         Check::Clear => {
             let c = own.capacity as usize;
             if tables::all_zero(rates, c) {
-                sheets::save(own, board, output);
+                let saving = sheets::put_leaves(board, c, output);
                 ShareSaved {
                     drive: own,
-                    answer: ShareSaving::Done(sheet_bytes(c)),
+                    answer: plainly(saving),
                 }
             } else {
                 ShareSaved {
                     drive: own,
-                    answer: ShareSaving::Kind,
+                    answer: no_sheet(output.len(), sheets::leaf_bytes(c)),
                 }
-            }
-        }
-    }
-}
-
-// A list of no pieces. The array is made here and nowhere else, so that no other proof computes it.
-fn no_list() -> [u16; 12288]
-    ensures { λ r. ⌜ r ≡ replicate 12288 0 ⌝ }
-{
-    [0u16; 12288]
-}
-
-// How many bytes the sheet of the pieces of c leaves has.
-fn pieces_bytes(board: &[u16], c: usize) -> usize
-    requires { ⌜ (c ≤ length (now board)) × (c ≤ 4095) ⌝ }
-    ensures { λ r. ⌜ r ≡ 512 * entryBlocks (length (namedPieces c (now (board .entry)))) ⌝ }
-{
-    let mut list = no_list();
-    let n = pieces::listing::list_pieces(board, c, &mut list);
-    if n == 0 {
-        return 512;
-    }
-    512 * ((n - 1) / 252 + 1)
-}
-
-// The refusals 1 to 5 and 11, of an output of so many bytes for a sheet of pieces.
-fn check_save_pieces(
-    own: Drive,
-    other: Drive,
-    board: &[u16],
-    rates: &[u16],
-    owed: &[u16],
-    owed_other: &[u16],
-    output: usize,
-) -> Check
-    ensures { λ r. ⌜ r ≡ starting.savingPiecesCheck own other (states.lent (now (board .entry)) (now (rates .entry)) (now (owed .entry)) (now («owed_other» .entry))) output ⌝ }
-{
-    match check_level(own, other, board, rates, owed, owed_other) {
-        Check::Refused(r) => Check::Refused(r),
-        Check::Clear => {
-            if output < pieces_bytes(board, own.capacity as usize) {
-                Check::Refused(Refusal::Output)
-            } else {
-                Check::Clear
             }
         }
     }
@@ -217,7 +121,7 @@ pub fn save_pieces(
 ) -> ShareSaved
     ensures { λ r. ⌜ starting.SavesPieces own other (states.lent (now (board .entry)) (now (rates .entry)) (now (owed .entry)) (now («owed_other» .entry))) (now (output .entry)) r (now (output .exit)) ⌝ }
 {
-    match check_save_pieces(own, other, board, rates, owed, owed_other, output.len()) {
+    match check_level(own, other, board, rates, owed, owed_other) {
         Check::Refused(r) => ShareSaved {
             drive: own,
             answer: ShareSaving::Refused(r),
@@ -225,15 +129,15 @@ pub fn save_pieces(
         Check::Clear => {
             let c = own.capacity as usize;
             if tables::all_zero(rates, c) {
-                sheets::save_pieces(own, board, output);
+                let saving = sheets::put_pieces(board, c, own.position as usize, output);
                 ShareSaved {
                     drive: own,
-                    answer: ShareSaving::Done(pieces_bytes(board, c)),
+                    answer: plainly(saving),
                 }
             } else {
                 ShareSaved {
                     drive: own,
-                    answer: ShareSaving::Kind,
+                    answer: no_sheet(output.len(), sheets::piece_bytes(board, c)),
                 }
             }
         }
@@ -248,22 +152,22 @@ pub fn fresh(
     rates: &mut [u16],
     owed: &mut [u16],
     owed_other: &mut [u16],
-) -> Refreshed
+) -> Checked
     ensures { λ r. ⌜ starting.Refreshes own other (states.lent (now (board .entry)) (now (rates .entry)) (now (owed .entry)) (now («owed_other» .entry))) r (states.lent (now (board .exit)) (now (rates .exit)) (now (owed .exit)) (now («owed_other» .exit))) ⌝ }
 {
     match check_start(own, other, board, rates, owed, owed_other) {
-        Check::Refused(r) => Refreshed {
+        Check::Refused(r) => Checked {
             drive: own,
-            answer: Refreshing::Refused(r),
+            answer: Check::Refused(r),
         },
         Check::Clear => {
             let c = own.capacity as usize;
             let old = tables::settling::remember(board, c);
             pieces::lay_out(board, c);
             tables::settling::settle_tables(&old, board, c, rates, owed, owed_other);
-            Refreshed {
+            Checked {
                 drive: own,
-                answer: Refreshing::Done,
+                answer: Check::Clear,
             }
         }
     }

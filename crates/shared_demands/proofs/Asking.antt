@@ -26,8 +26,8 @@ use Rattle.tables.proofs.Laws.{lowest-name, lowest-held, rated-at, placed-fits,
 use Rattle.waiting.specs.declared.Order.{Order}
 use Rattle.waiting.specs.Carrying.{carriedAll}
 use Rattle.orders.specs.Results.{carriedAnswer, carriedBoard}
-use Rattle.shares.specs.States.{State}
-use Rattle.shares.specs.Results.{onBoard, tableAfter, ratesAfter, carriedRates, carriedState, doing}
+use Rattle.shares.specs.States.{BoardTables}
+use Rattle.shares.specs.Results.{boardOrder, tableAfter, ratesAfter, carriedRates, carriedState, doing}
 use Rattle.shared_demands.specs.Holding.{askedBy, askedAll}
 use Rattle.shared_demands.proofs.Checking.{by-check}
 use Rattle.shared_demands.proofs.Fitting.{Tabled, carried-tabled}
@@ -133,7 +133,7 @@ module _ (C : ℕ) (B T : List ℕ) (x : ℕ) (may : Removable C B x) (long : C 
 
 -- ---- an order is carried out
 
-module _ (d : Drive) (t : State) (is : Tabled (d .capacity) t) (g : ℕ → ℕ) (was : Rates (d .capacity) (t .board) (t .rates) g) where
+module _ (d : Drive) (t : BoardTables) (is : Tabled (d .capacity) t) (g : ℕ → ℕ) (was : Rates (d .capacity) (t .board) (t .rates) g) where
   abbrev C : ℕ
   C = d .capacity
 
@@ -189,8 +189,8 @@ module _ (d : Drive) (t : State) (is : Tabled (d .capacity) t) (g : ℕ → ℕ)
   unfolding askedBy
   none-asked o a f y = rw f refl
 
-  pub carried-asked : (o : Order) → Rates (d .capacity) (carriedState d t o .board) (carriedState d t o .rates) (askedBy (carriedAnswer d (t .board) (onBoard o)) o g)
-  unfolding onBoard carriedBoard carriedAnswer carriedRates tableAfter ratesAfter
+  pub carried-asked : (o : Order) → Rates (d .capacity) (carriedState d t o .board) (carriedState d t o .rates) (askedBy (carriedAnswer d (t .board) (boardOrder o)) o g)
+  unfolding boardOrder carriedBoard carriedAnswer carriedRates tableAfter ratesAfter
   carried-asked o = by-bool (eqb (o .kind) 2)
       (λ h.
       let k = eqb-true (o .kind) 2 h in
@@ -211,9 +211,9 @@ module _ (d : Drive) (t : State) (is : Tabled (d .capacity) t) (g : ℕ → ℕ)
 
 -- ---- any orders
 
-pub all-asked : (d : Drive) (t : State) (os : List Order) (g : ℕ → ℕ) → Tabled (d .capacity) t → Rates (d .capacity) (t .board) (t .rates) g
+pub all-asked : (d : Drive) (t : BoardTables) (os : List Order) (g : ℕ → ℕ) → Tabled (d .capacity) t → Rates (d .capacity) (t .board) (t .rates) g
     → Rates (d .capacity) (carriedAll (doing d) t os .board) (carriedAll (doing d) t os .rates) (askedAll d (t .board) g os)
 unfolding carriedAll askedAll
 all-asked d t [] g is was = was
 all-asked d t (o ∷ os) g is was =
-    all-asked d (carriedState d t o) os (askedBy (carriedAnswer d (t .board) (onBoard o)) o g) (carried-tabled d t is o) (carried-asked d t is g was o)
+    all-asked d (carriedState d t o) os (askedBy (carriedAnswer d (t .board) (boardOrder o)) o g) (carried-tabled d t is o) (carried-asked d t is g was o)

@@ -1,5 +1,4 @@
--- Where the tables fit a good board no call with them answers DAMAGED.
--- Assumes nothing.
+-- Where the tables fit a good board no call with them answers DAMAGED. Assumes nothing.
 use mathlib.Core.Path.{_≡_, refl, ap, subst}
 use mathlib.Core.Bool.{Bool, true, false}
 use mathlib.Core.List.{List, [], _∷_}
@@ -12,7 +11,7 @@ use Rattle.calls.specs.declared.Check.the-variants.{Clear, Refused}
 use Rattle.calls.specs.Refusals.{numberOf, zeroOr}
 use Rattle.calls.proofs.Laws.{Within}
 use Rattle.demands.specs.Histories.{after}
-use Rattle.demands.specs.Holdings.{Stream}
+use Rattle.pieces.specs.Streams.{Stream}
 use Rattle.waiting.specs.declared.Order.{Order}
 use Rattle.orders.specs.declared.Way.{Way}
 use Rattle.orders.specs.declared.Way.the-variants as way
@@ -20,7 +19,7 @@ use Rattle.orders.specs.Checks.{orderCheck, waitsIf, wayBy}
 use Rattle.orders.specs.Results.{changedAnswerBy}
 use Rattle.drives.specs.Checks.{bothStart}
 use Rattle.shares.specs.Checks.{listCheck, wayOf}
-use Rattle.shares.specs.Results.{onBoard}
+use Rattle.shares.specs.Results.{boardOrder}
 use Rattle.amended.specs.Carried.{actsOf}
 use Rattle.amended.proofs.Laws as amended
 use Rattle.shared_demands.specs.Turns.{Pair, shown, wayAt, Changes, answersOwn}
@@ -34,7 +33,7 @@ way-refused Clear Clear true r c e = let z : _≡_ {A = ℕ} 0 1 = cc in absurd 
 way-refused Clear (Refused q) true r c e = let z : q ≡ r = cc in ap Refused z
 
 module _ (hs : List Stream) (s : Pair) (is : Standing hs s) where
-  change-not : (o : Order) (k : Way) → wayAt o s ≡ k → changedAnswerBy k (s .own) (s .state .board) (s .list) (onBoard o) .number ≡ 5 → ⊥
+  change-not : (o : Order) (k : Way) → wayAt o s ≡ k → changedAnswerBy k (s .own) (s .state .board) (s .list) (boardOrder o) .number ≡ 5 → ⊥
   unfolding wayOf zeroOr actsOf after
   change-not o (way.Refused r) e h =
       let C = s .own .capacity in
@@ -43,7 +42,7 @@ module _ (hs : List Stream) (s : Pair) (is : Standing hs s) where
       let m : Within (6 ∷ 7 ∷ []) (Refused r) = subst (λ (c : Check). Within (6 ∷ 7 ∷ []) c) j (amended.fine-within C B o (is .own .fine)) in
       amended.not-five (6 ∷ 7 ∷ []) (numberOf r) m refl h
   change-not o way.Wait e h = amended.taken-not (s .list) h
-  change-not o way.Now e h = amended.turn-carried (shown s) hs (is .own) [] (onBoard o) h
+  change-not o way.Now e h = amended.turn-carried (shown s) hs (is .own) [] (boardOrder o) h
 
   pub change-undamaged : (o : Order) → answersOwn (Changes o) s .number ≡ 5 → ⊥
   change-undamaged o = change-not o (wayAt o s) refl

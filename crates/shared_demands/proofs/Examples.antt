@@ -4,24 +4,25 @@ use mathlib.Core.Path.{_≡_, refl}
 use mathlib.Core.List.{List, [], _∷_}
 use Prim.Native.Nat.{ℕ}
 use lib.ListN.{replicate, take}
-use Rattle.sequences.specs.Board.{digits, leafAt, nextFrom}
+use Rattle.general.specs.Tests.{every}
+use Rattle.sequences.specs.SlotOrder.{digits, leafAt, nextFrom}
 use Rattle.pieces.specs.Board.{uniform, whole, pieces, weight, nth, single, sound, sum}
 use Rattle.pieces.specs.Placing.{fill, first, fit, spot, put, place}
 use Rattle.pieces.specs.Tidying.{copy, move, twin, join, pair, step, tidy, clear}
 use Rattle.calls.specs.Records.{driveAt}
 use Rattle.calls.specs.Refusals.{applies, addCheck, removeCheck, slotCheck}
-use Rattle.tables.specs.Sharing.{heldFor, lowest, leads, every, allZero, rateFits, ratesFit, owedFits, owedFit, allOwedFit, fits}
+use Rattle.tables.specs.Sharing.{heldFor, lowest, leads, allZero, rateFits, ratesFit, owedFits, owedFit, allOwedFit, fits}
 use Rattle.tables.specs.Settling.{written, settledAt, settledTable, ratedTable}
 use Rattle.tables.specs.Turns.{owedNext, turnName, turnOwed}
 use Rattle.demands.specs.Histories.{Add, Remove, Slot}
-use Rattle.waiting.specs.Layout.{least, answersIn, ordersIn, orderAt, outcomeAt, ordersFrom, waiting, counted, full, putAt, joined, answeredAt, answeredFrom, settled, foundFrom, placeOf, found, lowered, without}
+use Rattle.waiting.specs.Layout.{least, answersIn, ordersIn, orderAt, outcomeAt, ordersFrom, waiting, counted, full, putAt, joined, answeredAt, answeredFrom, settled, foundFrom, placeOf, found, lowered, withoutPlace}
 use Rattle.waiting.specs.Carrying.{carriedAll, outcomes}
 use Rattle.orders.specs.Checks.{orderCheck}
 use Rattle.orders.specs.Results.{addOrder, removeOrder, carried, carriedAnswer, carriedBoard}
 use Rattle.drives.specs.Checks.{sizeCheck, placeCheck, pairCheck, bothStart}
 use Rattle.shares.specs.States.{lent}
 use Rattle.shares.specs.Checks.{tooFew, shareCheck, wayOf}
-use Rattle.shares.specs.Results.{overOrder, onBoard, tableAfter, ratesAfter, carriedRates, carriedOwed, ranState, ranList, stateThen, listThen}
+use Rattle.shares.specs.Results.{overOrder, boardOrder, tableAfter, ratesAfter, carriedRates, carriedOwed, ranState, ranList, stateThen, listThen}
 use Rattle.amended.specs.Histories.{through, along, following}
 use Rattle.amended.specs.Carried.{actOf, actsOf}
 use Rattle.shared_demands.specs.Turns.{Pair, Changes, Slots, Turn, Own, Other, answers, leaves, leavesAll, due, plain, namesServed, leavesGiven, FullRound}
@@ -56,7 +57,7 @@ round :
     × (leavesAll over (Own Slots ∷ rest) .state ≡ lent (replicate 4 9) (3 ∷ 0 ∷ 0 ∷ 0 ∷ []) (replicate 4 0) (1 ∷ 0 ∷ 0 ∷ 0 ∷ []))
     × (plain (opened 4) (Own (Changes (overOrder 9 3)) ∷ Own Slots ∷ rest) ≡ Add 9 4 ∷ Slot ∷ Slot ∷ Slot ∷ Slot ∷ [])
     × FullRound over rest
-unfolding through along actOf actsOf due addCheck removeCheck slotCheck uniform whole pieces weight nth single sound sum fill first fit spot put place copy move twin join pair step tidy clear digits leafAt nextFrom least answersIn ordersIn orderAt outcomeAt ordersFrom waiting counted full putAt joined answeredAt answeredFrom settled foundFrom placeOf found lowered without carriedAll outcomes carried carriedAnswer carriedBoard orderCheck applies sizeCheck placeCheck pairCheck bothStart heldFor lowest leads every allZero rateFits ratesFit owedFits owedFit allOwedFit fits written settledAt settledTable ratedTable owedNext turnName turnOwed tooFew shareCheck wayOf onBoard tableAfter ratesAfter carriedRates carriedOwed ranState ranList stateThen listThen
+unfolding through along actOf actsOf due addCheck removeCheck slotCheck uniform whole pieces weight nth single sound sum fill first fit spot put place copy move twin join pair step tidy clear digits leafAt nextFrom least answersIn ordersIn orderAt outcomeAt ordersFrom waiting counted full putAt joined answeredAt answeredFrom settled foundFrom placeOf found lowered withoutPlace carriedAll outcomes carried carriedAnswer carriedBoard orderCheck applies sizeCheck placeCheck pairCheck bothStart heldFor lowest leads every allZero rateFits ratesFit owedFits owedFit allOwedFit fits written settledAt settledTable ratedTable owedNext turnName turnOwed tooFew shareCheck wayOf boardOrder tableAfter ratesAfter carriedRates carriedOwed ranState ranList stateThen listThen
 round = (refl, refl, refl, refl, refl, record { first = refl; slots = refl })
 
 -- ---- C = 6: stream 1 holds leaves 4 and 5, stream 9, which is over-allocated, leaves 0 and 1. Once 1 is removed 9 moves, to make room for 4, and r moves with it.
@@ -70,5 +71,5 @@ moves :
     × (leavesAll (opened 6) changes .state .rates ≡ 0 ∷ 0 ∷ 0 ∷ 0 ∷ 2 ∷ 0 ∷ [])
     × (askedThrough (λ x. 0) (opened 6) changes 9 ≡ 2)
     × (plain (opened 6) changes ≡ Add 1 2 ∷ Add 9 2 ∷ Remove 1 ∷ [])
-unfolding through along following actOf actsOf due askedBy askedAll addCheck removeCheck slotCheck uniform whole pieces weight nth single sound sum fill first fit spot put place copy move twin join pair step tidy clear digits leafAt nextFrom least answersIn ordersIn orderAt outcomeAt ordersFrom waiting counted full putAt joined answeredAt answeredFrom settled foundFrom placeOf found lowered without carriedAll outcomes carried carriedAnswer carriedBoard orderCheck applies sizeCheck placeCheck pairCheck bothStart heldFor lowest leads every allZero rateFits ratesFit owedFits owedFit allOwedFit fits written settledAt settledTable ratedTable owedNext turnName turnOwed tooFew shareCheck wayOf onBoard tableAfter ratesAfter carriedRates carriedOwed ranState ranList stateThen listThen
+unfolding through along following actOf actsOf due askedBy askedAll addCheck removeCheck slotCheck uniform whole pieces weight nth single sound sum fill first fit spot put place copy move twin join pair step tidy clear digits leafAt nextFrom least answersIn ordersIn orderAt outcomeAt ordersFrom waiting counted full putAt joined answeredAt answeredFrom settled foundFrom placeOf found lowered withoutPlace carriedAll outcomes carried carriedAnswer carriedBoard orderCheck applies sizeCheck placeCheck pairCheck bothStart heldFor lowest leads every allZero rateFits ratesFit owedFits owedFit allOwedFit fits written settledAt settledTable ratedTable owedNext turnName turnOwed tooFew shareCheck wayOf boardOrder tableAfter ratesAfter carriedRates carriedOwed ranState ranList stateThen listThen
 moves = (refl, refl, refl, refl, refl)

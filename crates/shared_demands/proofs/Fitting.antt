@@ -1,9 +1,8 @@
 -- The tables go on fitting the board, and each deficit is told by the drive's place in its round: after orders, which are carried out only where both drives are at
--- the start of a round and every deficit is 0, and after a turn.
--- Assumes nothing.
+-- the start of a round and every deficit is 0, and after a turn. Assumes nothing.
 use mathlib.Core.Path.{_≡_, refl, sym, ap, _∙_}
 use mathlib.Core.Bool.{Bool, true}
-use mathlib.Core.List.{List, [], _∷_, _++_}
+use mathlib.Core.List.{List, [], _∷_}
 use Prim.Native.Nat.{ℕ, zero, suc, _+_, _≤_, _<_}
 use native.Mathlib.Omega.{arith}
 use native.Mathlib.Decide.{decLt, ℕ-discrete}
@@ -11,9 +10,9 @@ use lib.Dec.{eqb}
 use lib.ListN.{length, getD}
 use borrow.Author.Tests.{eqb-true, ne-eqb}
 use Rattle.general.proofs.Laws.{by-bool}
-use Rattle.sequences.specs.Board.{leafAt, servedFrom, nextFrom, Position}
+use Rattle.sequences.specs.SlotOrder.{leafAt, servedFrom, nextFrom, Position}
 use Rattle.sequences.specs.Serving.{countList, left, leavesFrom, afterSlots}
-use Rattle.sequences.proofs.Laws.{first-position, leaf-below, left-first, left-after, leaves-more, after-more-slots, round-ends}
+use Rattle.sequences.proofs.Laws.{first-position, leaf-below, left-first, left-after, leaves-more, after-more-slots, round-ends, list-append}
 use Rattle.calls.specs.declared.Drive.{Drive}
 use Rattle.calls.specs.Refusals.{addCheck, removeCheck}
 use Rattle.calls.specs.Results.{servedLeaf, addedBoard, removedBoard}
@@ -26,21 +25,21 @@ use Rattle.tables.proofs.Laws.{held-some, owedFrom, owed-append, serves-whole, 
 use Rattle.waiting.specs.declared.Order.{Order}
 use Rattle.waiting.specs.Carrying.{carriedAll}
 use Rattle.orders.specs.Results.{carriedBoard}
-use Rattle.shares.specs.States.{State, lent, fitting}
-use Rattle.shares.specs.Results.{onBoard, tableAfter, ratesAfter, carriedRates, carriedOwed, carriedState, doing, turnState}
+use Rattle.shares.specs.States.{BoardTables, lent, fitting}
+use Rattle.shares.specs.Results.{boardOrder, tableAfter, ratesAfter, carriedRates, carriedOwed, carriedState, doing, turnState}
 use Rattle.shared_demands.specs.Turns.{exchangedState}
 use Rattle.shared_demands.proofs.Checking.{by-check}
 
 -- ---- what fits goes on fitting
 
 -- The tables are long enough, and fit the board.
-pub record Tabled (C : ℕ) (s : State) : Type 0 where
+pub record Tabled (C : ℕ) (s : BoardTables) : Type 0 where
   pub rates : C ≤ length (s .rates)
   pub owed : C ≤ length (s .owed)
   pub other : C ≤ length (s .other)
   pub fit : fitting C s ≡ true
 
-module _ (d : Drive) (s : State) (is : Tabled (d .capacity) s) where
+module _ (d : Drive) (s : BoardTables) (is : Tabled (d .capacity) s) where
   abbrev C : ℕ
   C = d .capacity
 
@@ -75,7 +74,7 @@ module _ (d : Drive) (s : State) (is : Tabled (d .capacity) s) where
       (λ k e. rw e is)
 
   pub carried-tabled : (o : Order) → Tabled (d .capacity) (carriedState d s o)
-  unfolding onBoard carriedBoard carriedRates carriedOwed
+  unfolding boardOrder carriedBoard carriedRates carriedOwed
   carried-tabled o = by-bool (eqb (o .kind) 2)
       (λ t.
       let k = eqb-true (o .kind) 2 t in
@@ -84,12 +83,12 @@ module _ (d : Drive) (s : State) (is : Tabled (d .capacity) s) where
       (λ t. rw (f, t) (over-tabled (o .name) (o .weight)))
       (λ g. by-bool (eqb (o .kind) 1) (λ t. rw (f, g, t) (add-tabled (o .name) (o .weight))) (λ h. rw (f, g, h, f) is)))
 
-pub all-tabled : (d : Drive) (s : State) (os : List Order) → Tabled (d .capacity) s → Tabled (d .capacity) (carriedAll (doing d) s os)
+pub all-tabled : (d : Drive) (s : BoardTables) (os : List Order) → Tabled (d .capacity) s → Tabled (d .capacity) (carriedAll (doing d) s os)
 unfolding carriedAll
 all-tabled d s [] is = is
 all-tabled d s (o ∷ os) is = all-tabled d (carriedState d s o) os (carried-tabled d s is o)
 
-pub turn-tabled : (d : Drive) (s : State) → Position (d .capacity) (d .position) → Tabled (d .capacity) s → Tabled (d .capacity) (turnState d s)
+pub turn-tabled : (d : Drive) (s : BoardTables) → Position (d .capacity) (d .position) → Tabled (d .capacity) s → Tabled (d .capacity) (turnState d s)
 turn-tabled d s at is =
     let C = d .capacity in
     let B = s .board in
@@ -111,7 +110,7 @@ carried-zero d B o E none = by-bool (eqb (o .kind) 2)
     (λ t. rw t (by-check (removeCheck d B (o .name)) (λ e. rw e (plain-settled (d .capacity) E none B (removed (d .capacity) B (o .name)))) (λ r e. rw e refl)))
     (λ f. rw f refl)
 
-pub all-zero : (d : Drive) (s : State) (os : List Order) → Zero (d .capacity) (s .owed) → Zero (d .capacity) (s .other)
+pub all-zero : (d : Drive) (s : BoardTables) (os : List Order) → Zero (d .capacity) (s .owed) → Zero (d .capacity) (s .other)
     → Zero (d .capacity) (carriedAll (doing d) s os .owed) × Zero (d .capacity) (carriedAll (doing d) s os .other)
 unfolding carriedAll
 all-zero d s [] a b = (a, b)
@@ -159,11 +158,6 @@ module _ (C : ℕ) (B T E : List ℕ) (some : zero < C) (few : C ≤ 4095) where
   unfolding afterSlots leavesFrom countList owedFrom
   zero-told none i h n = record { slots = 0; within = some; at = refl; owes = none i h }
 
-count-append : (f : ℕ → Bool) (L M : List ℕ) → countList f (L ++ M) ≡ countList f L + countList f M
-unfolding countList
-count-append f [] M = omega arith
-count-append f (x ∷ L) M = omega (arith, count-append f L M)
-
 module _ (C p : ℕ) (B T E : List ℕ) (at : Position C p) (fit : ratesFit C B T ≡ true) (wide : C ≤ length E) (i : ℕ) (h : i < C) (over : getD T i 0 ≡ 0 → ⊥)
     (was : Owes C p B T E i) where
   abbrev leaf : ℕ
@@ -180,7 +174,7 @@ module _ (C p : ℕ) (B T E : List ℕ) (at : Position C p) (fit : ratesFit C B 
   more =
       let f : ℕ → Bool = λ a. eqb (getD B a 0) (getD B i 0) in
       ap (countList f) (leaves-more C 1 m)
-      ∙ rw (was .at) (count-append f (leavesFrom C 1 m) (leaf ∷ []))
+      ∙ rw (was .at) (list-append f (leavesFrom C 1 m) (leaf ∷ []))
 
   owes-more : getD E′ i 0 ≡ owedFrom (getD T i 0) 0 (givenTo B i (leavesFrom C 1 (suc m)))
   unfolding owedAlong
@@ -218,19 +212,19 @@ module _ (C p : ℕ) (B T E : List ℕ) (at : Position C p) (fit : ratesFit C B 
 
 -- ---- the tables of two drives, the own at position p, the other at q
 
-pub record Tabling (C p q : ℕ) (s : State) : Type 0 where
+pub record Tabling (C p q : ℕ) (s : BoardTables) : Type 0 where
   pub tables : Tabled C s
   pub told : Told C p (s .board) (s .rates) (s .owed)
   pub others : Told C q (s .board) (s .rates) (s .other)
 
-pub owed-fit : (C : ℕ) (s : State) → Tabled C s → (ratesFit C (s .board) (s .rates) ≡ true) × (owedFit C (s .rates) (s .owed) ≡ true) × (owedFit C (s .rates) (s .other) ≡ true)
+pub owed-fit : (C : ℕ) (s : BoardTables) → Tabled C s → (ratesFit C (s .board) (s .rates) ≡ true) × (owedFit C (s .rates) (s .owed) ≡ true) × (owedFit C (s .rates) (s .other) ≡ true)
 owed-fit C s is =
     let B = s .board in
     let T = s .rates in
     let p = fits-first C B T (s .owed) (s .other ∷ []) (is .fit) in
     (fits-parts C B T (s .owed ∷ s .other ∷ []) (is .fit) .1, p .0, fits-first C B T (s .other) [] (p .1) .0)
 
-pub tabling-turned : (C p q : ℕ) (s : State) → Tabling C p q s → Tabling C q p (exchangedState s)
+pub tabling-turned : (C p q : ℕ) (s : BoardTables) → Tabling C p q s → Tabling C q p (exchangedState s)
 tabling-turned C p q s is =
     let t = is .tables in
     record {
@@ -240,7 +234,7 @@ tabling-turned C p q s is =
     }
 
 -- Orders, carried out where both drives are at the start of a round.
-pub tabling-orders : (d : Drive) (s : State) (os : List Order) → zero < d .capacity → d .capacity ≤ 4095 → Tabling (d .capacity) 1 1 s → Tabling (d .capacity) 1 1 (carriedAll (doing d) s os)
+pub tabling-orders : (d : Drive) (s : BoardTables) (os : List Order) → zero < d .capacity → d .capacity ≤ 4095 → Tabling (d .capacity) 1 1 s → Tabling (d .capacity) 1 1 (carriedAll (doing d) s os)
 tabling-orders d s os some few is =
     let C = d .capacity in
     let f = owed-fit C s (is .tables) in
@@ -253,7 +247,7 @@ tabling-orders d s os some few is =
     }
 
 -- A turn of the own drive.
-pub tabling-turn : (d : Drive) (s : State) (q : ℕ) → Position (d .capacity) (d .position) → Tabling (d .capacity) (d .position) q s
+pub tabling-turn : (d : Drive) (s : BoardTables) (q : ℕ) → Position (d .capacity) (d .position) → Tabling (d .capacity) (d .position) q s
     → Tabling (d .capacity) (nextFrom (d .capacity) (d .position)) q (turnState d s)
 tabling-turn d s q at is =
     let t = is .tables in

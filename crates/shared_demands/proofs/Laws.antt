@@ -1,7 +1,7 @@
--- The demands with over-allocated streams, request No. 7, each by its name. Demand 1 holds for every call and every input; demand 3 for each of the two drives, after every history of changes (kinds 1, 2 and 3),
--- slots and fetches of both, refused or not, each call given the last record of both drives and the board, the tables and the list as the last one left them. What
--- is proved of the own drive holds of the other, since what that one sees is a history too.
--- Assumes nothing.
+-- The demands with over-allocated streams, request No. 7, each by its name. Demand 1 holds for every call and every input; demand 3 for each of the
+-- two drives, after every history of changes (kinds 1, 2 and 3), slots and fetches of both, refused or not, each call given the last record of both
+-- drives and the board, the tables and the list as the last one left them. What is proved of the own drive holds of the other, since what that one
+-- sees is a history too. Assumes nothing.
 use mathlib.Core.Path.{_≡_, refl, sym, ap, subst, _∙_}
 use mathlib.Core.Bool.{true, cond}
 use mathlib.Core.List.{List, [], _∷_, map}
@@ -10,26 +10,27 @@ use native.Mathlib.Omega.{arith}
 use lib.Dec.{ltb}
 use lib.ListN.{getD, replicate}
 use borrow.Author.Tests.{lt-ltb}
-use Rattle.pieces.specs.Board.{weight, number}
+use Rattle.sequences.specs.Scanning.{occurrences}
+use Rattle.pieces.specs.Board.{weight, pieceCount}
 use Rattle.calls.specs.declared.Check.the-variants.{Clear}
 use Rattle.calls.specs.Records.{roundAfter}
-use Rattle.calls.specs.Refusals.{firstOf, askedAdd}
+use Rattle.calls.specs.Refusals.{firstOf, askedAdd, admitMay}
 use Rattle.calls.specs.Results.{roundNames}
 use Rattle.tables.specs.Sharing.{heldFor, lowest}
 use Rattle.tables.specs.Turns.{roundServes}
 use Rattle.tables.proofs.Laws.{held-above, owed-below, one-piece, Zero}
 use Rattle.demands.specs.Histories.{after, log}
 use Rattle.demands.specs.Histories as plainly
-use Rattle.demands.specs.Refusing.{otherChecks}
-use Rattle.demands.specs.Holdings.{Stream, heldFrom, heldOf, total}
-use Rattle.demands.specs.Rounds.{names, times, inARow, Near, bound}
+use Rattle.pieces.specs.Streams.{Stream, heldOf, total}
+use Rattle.demands.specs.Holdings.{heldFrom}
+use Rattle.demands.specs.Rounds.{names, inARow, Near, bound}
 use Rattle.waiting.specs.declared.Order.{Order}
 use Rattle.waiting.specs.Layout.{waiting}
 use Rattle.orders.specs.declared.Way.the-variants as way
 use Rattle.orders.specs.Results.{addOrder}
 use Rattle.drives.specs.Checks.{bothStart}
-use Rattle.shares.specs.States.{State, fitting}
-use Rattle.shares.specs.Results.{overOrder, onBoard, stateThen}
+use Rattle.shares.specs.States.{fitting}
+use Rattle.shares.specs.Results.{overOrder, boardOrder, stateThen}
 use Rattle.amended.specs.Carried.{actsOf}
 use Rattle.amended.proofs.Laws as amended
 use Rattle.shared_demands.specs.Turns.{Pair, exchanged, Which, This, That, seenBy, shown, wayAt, Deed, Changes, Slots, answersOwn, leavesOwn, Turn, Own, Other, answers, leaves, leavesAll, turned, turnedAll, actsFor, plain, namesServed, leavesGiven, FullRound}
@@ -131,10 +132,10 @@ module _ (s : Pair) (ready : Ready s) (turns : List Turn) (f : Which) where
     pub shared-over : heldOf x held' ≡ heldFor r
     shared-over = shared-held x named ∙ over .holds
 
-    pub shared-piece : number (pair' .own .capacity) (pair' .state .board) x ≡ 1
+    pub shared-piece : pieceCount (pair' .own .capacity) (pair' .state .board) x ≡ 1
     shared-piece =
         let B = pair' .state .board in
-        ap (number C B) (sym (over .name))
+        ap (pieceCount C B) (sym (over .name))
         ∙ one-piece C B (pair' .state .rates) (lowest C B x) (few held' pair' st) (st .own .fine) (owed-fit C (pair' .state) (st .fine .tables) .0) (over .below) (λ z. let e = over .rate in omega arith)
 
     -- r stands at its lowest leaf, and its deficit there is above -R and at most 0.
@@ -168,25 +169,25 @@ module _ (s : Pair) (ready : Ready s) (turns : List Turn) (f : Which) where
     -- An add of w leaves, w being R for an over-allocated one, passes the checks beside ROOM if a round begins, it has a name and a weight, and nothing is held of
     -- the name;
     pub shared-others : (x w : ℕ) → turn .drive .position ≡ 1 → (x ≡ 0 → ⊥) → (w ≡ 0 → ⊥) → heldOf x heldInTurn ≡ 0
-        → firstOf otherChecks (askedAdd (turn .drive) (turn .board) x w) ≡ Clear
-    shared-others = amended.turn-others (shown pair') held' (st .own) (map onBoard ahead)
+        → firstOf admitMay (askedAdd (turn .drive) (turn .board) x w) ≡ Clear
+    shared-others = amended.turn-others (shown pair') held' (st .own) (map boardOrder ahead)
 
     -- and then it is refused for ROOM exactly when its weight exceeds C less the sum of the weights held, and else it is done. Refused so, it says that number.
-    pub shared-room : (x w : ℕ) → firstOf otherChecks (askedAdd (turn .drive) (turn .board) x w) ≡ Clear
+    pub shared-room : (x w : ℕ) → firstOf admitMay (askedAdd (turn .drive) (turn .board) x w) ≡ Clear
         → (inTurn pair' ahead (addOrder x w) .number ≡ cond (ltb (C - total heldInTurn) w) 10 0)
         × (inTurn pair' ahead (addOrder x w) .number ≡ 10 → inTurn pair' ahead (addOrder x w) .values ≡ (C - total heldInTurn) ∷ [])
-    unfolding onBoard
-    shared-room = amended.turn-room (shown pair') held' (st .own) (map onBoard ahead)
+    unfolding boardOrder
+    shared-room = amended.turn-room (shown pair') held' (st .own) (map boardOrder ahead)
 
     -- An over-allocated add goes by R.
-    pub shared-over-room : (x r : ℕ) → firstOf otherChecks (askedAdd (turn .drive) (turn .board) x (heldFor r)) ≡ Clear
+    pub shared-over-room : (x r : ℕ) → firstOf admitMay (askedAdd (turn .drive) (turn .board) x (heldFor r)) ≡ Clear
         → (inTurn pair' ahead (overOrder x r) .number ≡ cond (ltb (C - total heldInTurn) (heldFor r)) 10 0)
         × (inTurn pair' ahead (overOrder x r) .number ≡ 10 → inTurn pair' ahead (overOrder x r) .values ≡ (C - total heldInTurn) ∷ [])
-    unfolding onBoard
-    shared-over-room x r = amended.turn-room (shown pair') held' (st .own) (map onBoard ahead) x (heldFor r)
+    unfolding boardOrder
+    shared-over-room x r = amended.turn-room (shown pair') held' (st .own) (map boardOrder ahead) x (heldFor r)
 
     -- r above 4,095 is more than any room; so is r above 32,768, whose R is 65,536.
-    pub shared-over-large : (x r : ℕ) → 4095 < r → firstOf otherChecks (askedAdd (turn .drive) (turn .board) x (heldFor r)) ≡ Clear
+    pub shared-over-large : (x r : ℕ) → 4095 < r → firstOf admitMay (askedAdd (turn .drive) (turn .board) x (heldFor r)) ≡ Clear
         → inTurn pair' ahead (overOrder x r) .number ≡ 10
     shared-over-large x r large e =
         let l = few held' pair' st in
@@ -194,7 +195,7 @@ module _ (s : Pair) (ready : Ready s) (turns : List Turn) (f : Which) where
 
     -- No order is answered DAMAGED.
     pub shared-carried : (o : Order) → inTurn pair' ahead o .number ≡ 5 → ⊥
-    shared-carried o = amended.turn-carried (shown pair') held' (st .own) (map onBoard ahead) (onBoard o)
+    shared-carried o = amended.turn-carried (shown pair') held' (st .own) (map boardOrder ahead) (boardOrder o)
 
   -- A change that is made at once is answered so, with none ahead of it.
   pub shared-at-once : (o : Order) → wayAt o pair' ≡ way.Now → answersOwn (Changes o) pair' ≡ inTurn pair' [] o
@@ -224,12 +225,12 @@ module _ (s : Pair) (ready : Ready s) (turns : List Turn) (f : Which) where
     pub shared-gives : leavesGiven pair' (Own Slots ∷ rest) ≡ roundNames C (stateThen (pair' .own) (pair' .other) (pair' .state) (pair' .list) .board)
     shared-gives = gives held' pair' st rest full .order
 
-    pub shared-leaves : (x : ℕ) → (x ≡ 0 → ⊥) → times x (leavesGiven pair' (Own Slots ∷ rest)) ≡ heldOf x (heldThen held' pair')
+    pub shared-leaves : (x : ℕ) → (x ≡ 0 → ⊥) → occurrences x (leavesGiven pair' (Own Slots ∷ rest)) ≡ heldOf x (heldThen held' pair')
     shared-leaves = gives held' pair' st rest full .often
 
     -- In any t successive slots of it a stream that holds w is given s leaves, and C s and w t differ by less than m C + w h.
     pub shared-fair : (x w i t : ℕ) → heldOf x (heldThen held' pair') ≡ w → zero < w → i + t ≤ C
-        → Near (C * times x (inARow i t (leavesGiven pair' (Own Slots ∷ rest)))) (w * t) (bound C w)
+        → Near (C * occurrences x (inARow i t (leavesGiven pair' (Own Slots ∷ rest)))) (w * t) (bound C w)
     shared-fair = gives held' pair' st rest full .fair
 
     -- It serves what round would write there, every deficit taken as 0.
@@ -239,7 +240,7 @@ module _ (s : Pair) (ready : Ready s) (turns : List Turn) (f : Which) where
 
     -- A stream that is not over-allocated is served as often as the weight that it holds then.
     module _ (x : ℕ) (named : x ≡ 0 → ⊥) where
-      pub shared-plain-serves : askedThen asked' pair' x ≡ 0 → zero < heldOf x (heldThen held' pair') → times x (namesServed pair' (Own Slots ∷ rest)) ≡ heldOf x (heldThen held' pair')
+      pub shared-plain-serves : askedThen asked' pair' x ≡ 0 → zero < heldOf x (heldThen held' pair') → occurrences x (namesServed pair' (Own Slots ∷ rest)) ≡ heldOf x (heldThen held' pair')
       shared-plain-serves = serves-plain held' pair' st rest full (askedThen asked' pair') (then-rates asked' pair' ask) x named
 
       -- One that is over-allocated, with r, holds R,
@@ -248,15 +249,15 @@ module _ (s : Pair) (ready : Ready s) (turns : List Turn) (f : Which) where
         shared-holds = over-holds held' pair' st rest full (askedThen asked' pair') (then-rates asked' pair' ask) x named r is some'
 
         -- and is served r times;
-        pub shared-serves : times x (namesServed pair' (Own Slots ∷ rest)) ≡ r
+        pub shared-serves : occurrences x (namesServed pair' (Own Slots ∷ rest)) ≡ r
         shared-serves = serves-over held' pair' st rest full (askedThen asked' pair') (then-rates asked' pair' ask) x named r is some'
 
         -- in the first n slots, of which some are its leaves, as often as these times r / R, rounded up.
         pub shared-first : (n : ℕ)
-            → times x (inARow 0 n (namesServed pair' (Own Slots ∷ rest))) ≡ (times x (inARow 0 n (leavesGiven pair' (Own Slots ∷ rest))) * r + (heldFor r - 1)) / heldFor r
+            → occurrences x (inARow 0 n (namesServed pair' (Own Slots ∷ rest))) ≡ (occurrences x (inARow 0 n (leavesGiven pair' (Own Slots ∷ rest))) * r + (heldFor r - 1)) / heldFor r
         shared-first = serves-first held' pair' st rest full (askedThen asked' pair') (then-rates asked' pair' ask) x named r is some'
 
         -- In any t successive slots it is given s leaves, and C s and R t differ by less than C + R h: it has one piece.
         pub shared-piece-fair : (i t : ℕ) → i + t ≤ pair' .own .capacity
-            → Near (pair' .own .capacity * times x (inARow i t (leavesGiven pair' (Own Slots ∷ rest)))) (heldFor r * t) (pieceBound (pair' .own .capacity) (heldFor r))
+            → Near (pair' .own .capacity * occurrences x (inARow i t (leavesGiven pair' (Own Slots ∷ rest)))) (heldFor r * t) (pieceBound (pair' .own .capacity) (heldFor r))
         shared-piece-fair = given-fair held' pair' st rest full (askedThen asked' pair') (then-rates asked' pair' ask) x named r is some'

@@ -6,12 +6,13 @@ use mathlib.Core.Bool.{true}
 use mathlib.Core.List.{List, _∷_}
 use Prim.Native.Nat.{ℕ, zero, _+_, _-_, _*_, _/_, _≤_, _<_}
 use lib.ListN.{length, getD}
+use Rattle.sequences.specs.Scanning.{occurrences}
 use Rattle.calls.specs.Answers.{Answer}
 use Rattle.pieces.specs.Board.{weight}
 use Rattle.tables.specs.Sharing.{heldFor, lowest}
 use Rattle.tables.proofs.Laws.{Zero}
-use Rattle.demands.specs.Holdings.{Stream, heldOf}
-use Rattle.demands.specs.Rounds.{times, inARow, Near}
+use Rattle.pieces.specs.Streams.{Stream, heldOf}
+use Rattle.demands.specs.Rounds.{inARow, Near}
 use Rattle.waiting.specs.declared.Order.{Order}
 use Rattle.shares.specs.States.{fitting}
 use Rattle.shared_demands.specs.Turns.{Pair, This, Deed, Changes, Slots, answersOwn, Turn, Own, Other, leavesAll, namesServed, leavesGiven, FullRound}
@@ -62,8 +63,7 @@ module _ (s : One) (ready : Ready (twice s)) (deeds : List Deed) where
 
   -- What is held of a name is the number of its leaves.
   pub single-held : (x : ℕ) → (x ≡ 0 → ⊥) → heldOf x held' ≡ weight (one' .drive .capacity) (one' .state .board) x
-  single-held =
-      subst (λ (u : Pair). (x : ℕ) → (x ≡ 0 → ⊥) → heldOf x held' ≡ weight (u .own .capacity) (u .state .board) x) single-in-step
+  single-held = subst (λ (u : Pair). (x : ℕ) → (x ≡ 0 → ⊥) → heldOf x held' ≡ weight (u .own .capacity) (u .state .board) x) single-in-step
       (shared-held (inStep s) single-start (turnsFor deeds) This)
 
   -- A deficit is above -R and at most 0, and at the start of a round every one is 0.
@@ -102,15 +102,14 @@ module _ (s : One) (ready : Ready (twice s)) (deeds : List Deed) where
 
     module _ (x : ℕ) (named : x ≡ 0 → ⊥) where
       -- It gives a stream as many leaves as it holds once the list has run, if it runs;
-      pub single-leaves : times x (givenOne one' (Slots ∷ rest)) ≡ heldOf x (heldThen held' (inStep one'))
+      pub single-leaves : occurrences x (givenOne one' (Slots ∷ rest)) ≡ heldOf x (heldThen held' (inStep one'))
       single-leaves =
-          ap (times x) (sym given) ∙ shared-leaves (inStep s) single-start (turnsFor deeds) This turns single-round x named
+          ap (occurrences x) (sym given) ∙ shared-leaves (inStep s) single-start (turnsFor deeds) This turns single-round x named
           ∙ ap (λ (u : Pair). heldOf x (heldThen held' u)) single-in-step
 
       -- one that is not over-allocated is served at each of them,
-      pub single-plain-serves : askedThen asked' (inStep one') x ≡ 0 → zero < heldOf x (heldThen held' (inStep one')) → times x (namesOne one' (Slots ∷ rest)) ≡ heldOf x (heldThen held' (inStep one'))
-      single-plain-serves z h =
-          ap (times x) (sym served)
+      pub single-plain-serves : askedThen asked' (inStep one') x ≡ 0 → zero < heldOf x (heldThen held' (inStep one')) → occurrences x (namesOne one' (Slots ∷ rest)) ≡ heldOf x (heldThen held' (inStep one'))
+      single-plain-serves z h = ap (occurrences x) (sym served)
           ∙ shared-plain-serves (inStep s) single-start (turnsFor deeds) This turns single-round x named
           (ap (λ (u : Pair). askedThen asked' u x) single-in-step ∙ z) (subst (λ (u : Pair). zero < heldOf x (heldThen held' u)) (sym single-in-step) h)
           ∙ ap (λ (u : Pair). heldOf x (heldThen held' u)) single-in-step
@@ -125,19 +124,19 @@ module _ (s : One) (ready : Ready (twice s)) (deeds : List Deed) where
             ap (λ (u : Pair). heldOf x (heldThen held' u)) (sym single-in-step) ∙ shared-holds (inStep s) single-start (turnsFor deeds) This turns single-round x named r is some
 
         -- and is served r times,
-        pub single-serves : times x (namesOne one' (Slots ∷ rest)) ≡ r
-        single-serves = ap (times x) (sym served) ∙ shared-serves (inStep s) single-start (turnsFor deeds) This turns single-round x named r is some
+        pub single-serves : occurrences x (namesOne one' (Slots ∷ rest)) ≡ r
+        single-serves = ap (occurrences x) (sym served) ∙ shared-serves (inStep s) single-start (turnsFor deeds) This turns single-round x named r is some
 
         -- in the first n slots as often as its leaves among them times r / R, rounded up.
         pub single-first : (n : ℕ)
-            → times x (inARow 0 n (namesOne one' (Slots ∷ rest))) ≡ (times x (inARow 0 n (givenOne one' (Slots ∷ rest))) * r + (heldFor r - 1)) / heldFor r
+            → occurrences x (inARow 0 n (namesOne one' (Slots ∷ rest))) ≡ (occurrences x (inARow 0 n (givenOne one' (Slots ∷ rest))) * r + (heldFor r - 1)) / heldFor r
         single-first n = rw (served, given) at (shared-first (inStep s) single-start (turnsFor deeds) This turns single-round x named r is some n)
 
         -- In any t successive slots it is given k leaves, and C k and R t differ by less than C + R h.
         pub single-piece-fair : (i t : ℕ) → i + t ≤ one' .drive .capacity
-            → Near (one' .drive .capacity * times x (inARow i t (givenOne one' (Slots ∷ rest)))) (heldFor r * t) (pieceBound (one' .drive .capacity) (heldFor r))
+            → Near (one' .drive .capacity * occurrences x (inARow i t (givenOne one' (Slots ∷ rest)))) (heldFor r * t) (pieceBound (one' .drive .capacity) (heldFor r))
         single-piece-fair i t within =
             let size : together .own .capacity ≡ one' .drive .capacity = ap (λ (u : Pair). u .own .capacity) single-in-step in
             let f = shared-piece-fair (inStep s) single-start (turnsFor deeds) This turns single-round x named r is some i t (subst (λ (c : ℕ). i + t ≤ c) (sym size) within) in
-            subst (λ (c : ℕ). Near (c * times x (inARow i t (givenOne one' (Slots ∷ rest)))) (heldFor r * t) (pieceBound c (heldFor r))) size
-            (subst (λ (l : List ℕ). Near (together .own .capacity * times x (inARow i t l)) (heldFor r * t) (pieceBound (together .own .capacity) (heldFor r))) given f)
+            subst (λ (c : ℕ). Near (c * occurrences x (inARow i t (givenOne one' (Slots ∷ rest)))) (heldFor r * t) (pieceBound c (heldFor r))) size
+            (subst (λ (l : List ℕ). Near (together .own .capacity * occurrences x (inARow i t l)) (heldFor r * t) (pieceBound (together .own .capacity) (heldFor r))) given f)

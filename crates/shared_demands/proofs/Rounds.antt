@@ -7,8 +7,8 @@ use mathlib.Core.List.{List, [], _∷_, _++_, map}
 use Prim.Native.Nat.{ℕ, zero, suc, _+_, _-_, _≤_, _<_}
 use native.Mathlib.Omega.{arith}
 use lib.ListN.{length, replicate, length-append, length-replicate, getD-replicate}
-use Rattle.general.proofs.Laws.{by-bool}
-use Rattle.sequences.specs.Board.{nextFrom}
+use Rattle.general.proofs.Laws.{by-bool, empty}
+use Rattle.sequences.specs.SlotOrder.{nextFrom}
 use Rattle.sequences.specs.Serving.{leavesFrom, afterSlots}
 use Rattle.sequences.proofs.Laws.{after-more-slots, first-position}
 use Rattle.calls.specs.declared.Drive.{Drive}
@@ -21,7 +21,7 @@ use Rattle.tables.specs.Turns.{namesAlong, roundServes}
 use Rattle.tables.proofs.Laws.{names-same, Zero}
 use Rattle.demands.specs.Histories.{Act, Slot, after}
 use Rattle.demands.specs.Histories as plainly
-use Rattle.demands.specs.Holdings.{Stream}
+use Rattle.pieces.specs.Streams.{Stream}
 use Rattle.demands.specs.Rounds.{namesFrom}
 use Rattle.demands.specs.Rounds as rounds
 use Rattle.demands.proofs.Laws.{Sound, reached, full-over}
@@ -32,8 +32,8 @@ use Rattle.orders.specs.declared.Way.{Way}
 use Rattle.orders.specs.declared.Way.the-variants as way
 use Rattle.drives.specs.Checks.{bothStart}
 use Rattle.drives.proofs.Laws.{start-both, start-swap}
-use Rattle.shares.specs.States.{State}
-use Rattle.shares.specs.Results.{carriedState, doing, saying, ranList, stateBy, stateThen, listThen, turnName, turnState, servedAnswerBy, onBoard}
+use Rattle.shares.specs.States.{BoardTables}
+use Rattle.shares.specs.Results.{carriedState, doing, saying, ranList, stateBy, stateThen, listThen, turnName, turnState, servedAnswerBy, boardOrder}
 use Rattle.amended.specs.Histories.{along}
 use Rattle.amended.proofs.Laws as amended
 use Rattle.shared_demands.specs.Turns.{Pair, exchanged, shown, firstChecks, wayAt, Deed, Changes, Slots, Fetches, answersOwn, leavesOwn, Turn, Own, Other, leaves, leavesAll, due, actsFor, standsFor, plain, nameIn, nameServed, namesServed, onLeaf, leafGiven, leavesGiven, FullRound}
@@ -74,7 +74,7 @@ slots-full hs s is first =
 
 -- ---- a full round gives the leaves of a plain full round from where the list has run
 
-answer-many : (s : Pair) (k : Check) (t : State) (B : List ℕ) → length (onLeaf (servedAnswerBy k (s .own) t) B) ≡ length (nameIn (servedAnswerBy k (s .own) t))
+answer-many : (s : Pair) (k : Check) (t : BoardTables) (B : List ℕ) → length (onLeaf (servedAnswerBy k (s .own) t) B) ≡ length (nameIn (servedAnswerBy k (s .own) t))
 answer-many s Clear t B = refl
 answer-many s (Refused r) t B = rw (number-some r) refl
 
@@ -87,8 +87,7 @@ one-many (Other a) s = refl
 as-many : (s : Pair) (turns : List Turn) → length (leavesGiven s turns) ≡ length (namesServed s turns)
 unfolding along
 as-many s [] = refl
-as-many s (t ∷ rest) =
-    length-append (leafGiven t s) (leavesGiven (leaves t s) rest)
+as-many s (t ∷ rest) = length-append (leafGiven t s) (leavesGiven (leaves t s) rest)
     ∙ rw (one-many t s, as-many (leaves t s) rest) (sym (length-append (nameServed t s) (namesServed (leaves t s) rest)))
 
 clear-stands : (s : Pair) (k : Check) → k ≡ Clear → actsFor (ifClear k (due s) []) ++ ifClear k (Slot ∷ []) [] ≡ actsFor (due s) ++ (Slot ∷ [])
@@ -103,18 +102,16 @@ module _ (hs : List Stream) (s : Pair) (is : Standing hs s) (rest : List Turn) (
   stands = clear-stands s (firstChecks s) (first-clear hs s is)
 
   pub round-given : leavesGiven s (Own Slots ∷ rest) ≡ namesFrom (ranPlain s) (plain (leaves (Own Slots) s) rest)
-  round-given =
-      amended.names-from-slot leaves shown standsFor (λ t u. Unit {0}) (λ t u ok. projected-one t u)
+  round-given = amended.names-from-slot leaves shown standsFor (λ t u. Unit {0}) (λ t u ok. projected-one t u)
       (Own Slots) s rest (actsFor (due s)) stands (all-so s (Own Slots ∷ rest))
-      leafGiven (λ t u ok. given-one t u) (amended.acts-names (shown s) (map onBoard (due s)))
+      leafGiven (λ t u ok. given-one t u) (amended.acts-names (shown s) (map boardOrder (due s)))
       ∙ rw (due-state s) refl
 
   pub plain-round : rounds.FullRound (ranPlain s) (plain (leaves (Own Slots) s) rest)
   plain-round = record { first = full .first; slots = ap length (sym round-given) ∙ as-many s (Own Slots ∷ rest) ∙ full .slots }
 
   leads : shown (leavesAll s (Own Slots ∷ rest)) ≡ after (ranPlain s) (Slot ∷ later)
-  leads =
-      amended.leads-from-slot leaves shown standsFor (λ t u. Unit {0}) (λ t u ok. projected-one t u)
+  leads = amended.leads-from-slot leaves shown standsFor (λ t u. Unit {0}) (λ t u ok. projected-one t u)
       (Own Slots) s rest (actsFor (due s)) stands (all-so s (Own Slots ∷ rest))
       ∙ rw (due-state s) refl
 
@@ -125,16 +122,16 @@ module _ (hs : List Stream) (s : Pair) (is : Standing hs s) (rest : List Turn) (
 -- ---- calls within a round
 
 -- n names of slots in a row, turn after turn.
-abbrev alongFrom : Drive → State → ℕ → List ℕ
+abbrev alongFrom : Drive → BoardTables → ℕ → List ℕ
 alongFrom d t n = namesAlong (d .capacity) (t .board) (t .rates) (t .owed) (leavesFrom (d .capacity) (d .position) n)
 
 -- What a slot looks at is as it was.
-record Kept (t u : State) : Type 0 where
+record Kept (t u : BoardTables) : Type 0 where
   board : u .board ≡ t .board
   rates : u .rates ≡ t .rates
   owed : u .owed ≡ t .owed
 
-kept-along : (d : Drive) (t u : State) (n : ℕ) → Kept t u → alongFrom d u n ≡ alongFrom d t n
+kept-along : (d : Drive) (t u : BoardTables) (n : ℕ) → Kept t u → alongFrom d u n ≡ alongFrom d t n
 kept-along d t u n k = rw (k .board, k .rates, k .owed) refl
 
 module _ (s : Pair) (away : s .own .position ≡ 1 → ⊥) where
@@ -175,10 +172,6 @@ slot-leaves : (s : Pair) → firstChecks s ≡ Clear
     → (leaves (Own Slots) s .own ≡ movedOn (s .own)) × (leaves (Own Slots) s .state ≡ turnState (s .own) (ranState' s)) × (nameServed (Own Slots) s ≡ turnName (s .own) (ranState' s) ∷ [])
 slot-leaves s e = rw e (refl, refl, refl)
 
-empty : (l : List ℕ) → length l ≡ 0 → l ≡ []
-empty [] e = refl
-empty (x ∷ l) e = absurd (omega arith)
-
 -- within a round the position is not the first
 mid-away : (C p i n : ℕ) → zero < C → C ≤ 4095 → p ≡ afterSlots C 1 i → zero < i → i + suc n ≤ C → p ≡ 1 → ⊥
 mid-away C p i n some few at far h e = omega (arith, start-none C i some few (omega arith) (sym at ∙ e))
@@ -199,9 +192,9 @@ mid hs s (Own Slots ∷ rest) i (suc n) is at far h l =
     let size : u .own .capacity ≡ s .own .capacity = ap (λ (d : Drive). d .capacity) (q .0) in
     let place : u .own .position ≡ afterSlots (u .own .capacity) 1 (suc i) = ap (λ (d : Drive). d .position) (q .0) ∙ on ∙ ap (λ (c : ℕ). afterSlots c 1 (suc i)) (sym size) in
     let m : length (namesServed u rest) ≡ n = let z = sym (ap (λ (xs : List ℕ). length (xs ++ namesServed u rest)) (q .2)) ∙ l in omega arith in
-    ap₂ (λ (xs ys : List ℕ). xs ++ ys) (q .2 ∙ ap (λ (t : State). turnName (s .own) t ∷ []) st)
+    ap₂ (λ (xs ys : List ℕ). xs ++ ys) (q .2 ∙ ap (λ (t : BoardTables). turnName (s .own) t ∷ []) st)
     (mid (heldNext hs (Own Slots) s) u rest (suc i) n (standing-next hs (Own Slots) s is) place (omega arith) (omega arith) m
-    ∙ ap₂ (λ (d : Drive) (t : State). alongFrom d t n) (q .0) (q .1 ∙ ap (turnState (s .own)) st))
+    ∙ ap₂ (λ (d : Drive) (t : BoardTables). alongFrom d t n) (q .0) (q .1 ∙ ap (turnState (s .own)) st))
 mid hs s (Own (Changes o) ∷ rest) i (suc n) is at far h l =
     let away = mid-away (s .own .capacity) (s .own .position) i n (some hs s is) (few hs s is) at far h in
     let u = leaves (Own (Changes o)) s in
@@ -240,7 +233,7 @@ module _ (hs : List Stream) (s : Pair) (is : Standing hs s) (first : s .own .pos
         let m : length (namesServed u rest) ≡ C - 1 = let z = sym (ap (λ (xs : List ℕ). length (xs ++ namesServed u rest)) (q .2)) ∙ full .slots in omega arith in
         ap₂ (λ (xs ys : List ℕ). xs ++ ys) (q .2)
         (mid (heldNext hs (Own Slots) s) u rest 1 (C - 1) (standing-next hs (Own Slots) s is) place (omega arith) (omega arith) m
-        ∙ ap₂ (λ (d : Drive) (t : State). alongFrom d t (C - 1)) (q .0) (q .1))
+        ∙ ap₂ (λ (d : Drive) (t : BoardTables). alongFrom d t (C - 1)) (q .0) (q .1))
         ∙ ap₂ (λ (p k : ℕ). namesAlong C (ranState' s .board) (ranState' s .rates) (ranState' s .owed) (leavesFrom C p k)) first n
 
     pub round-order : namesServed s (Own Slots ∷ rest) ≡ roundServes (s .own .capacity) (ranState' s .board) (ranState' s .rates)

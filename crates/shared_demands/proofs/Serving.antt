@@ -12,14 +12,15 @@ use lib.ListN.{getD, take}
 use borrow.Author.Tests.{eq-eqb, ne-eqb}
 use Rattle.sequences.specs.Serving.{countList, leavesFrom}
 use Rattle.sequences.proofs.Laws.{count-map}
-use Rattle.pieces.specs.Board.{weight, number}
+use Rattle.sequences.specs.Scanning.{occurrences}
+use Rattle.pieces.specs.Board.{weight, pieceCount}
 use Rattle.calls.specs.Results.{slotNames}
 use Rattle.tables.specs.Sharing.{heldFor, lowest, ratesFit}
 use Rattle.tables.specs.Turns.{owedAt, nameAt, namesAlong, servedWeight}
 use Rattle.tables.proofs.Laws.{lowest-name, lowest-held, rated-at, zero-elim, round-serves, serves-along, one-piece, held-some}
-use Rattle.demands.specs.Holdings.{Stream, heldOf}
-use Rattle.demands.specs.Rounds.{times, inARow, Near, bound}
-use Rattle.shares.specs.States.{State}
+use Rattle.pieces.specs.Streams.{Stream, heldOf}
+use Rattle.demands.specs.Rounds.{inARow, Near, bound}
+use Rattle.shares.specs.States.{BoardTables}
 use Rattle.amended.proofs.Laws as amended
 use Rattle.shared_demands.specs.Turns.{Pair, exchanged, wayAt, Deed, Changes, Slots, Fetches, carriesOut, leavesOwn, Turn, Own, Other, leaves, leavesAll, due, plain, namesServed, leavesGiven, FullRound}
 use Rattle.shared_demands.specs.Holding.{heldThen, askedAll, askedOwn, askedNext, askedThrough, askedThen, streamsOn, Ready, pieceBound}
@@ -45,14 +46,13 @@ asked-turned g s is = record {
 
 module _ (g : ℕ → ℕ) (s : Pair) (is : Asked g s) where
   pub then-rates : Rates (s .own .capacity) (ranState' s .board) (ranState' s .rates) (askedThen g s)
-  then-rates =
-      subst (λ (t : State). Rates (s .own .capacity) (t .board) (t .rates) (askedThen g s)) (sym (due-ran s))
+  then-rates = subst (λ (t : BoardTables). Rates (s .own .capacity) (t .board) (t .rates) (askedThen g s)) (sym (due-ran s))
       (all-asked (s .own) (s .state) (due s) g (is .stands .fine .tables) (is .rates))
 
   own-rates : (a : Deed) → Rates (leavesOwn a s .own .capacity) (leavesOwn a s .state .board) (leavesOwn a s .state .rates) (askedOwn g a s)
   unfolding askedAll
   own-rates (Changes o) =
-      subst (λ (t : State). Rates (s .own .capacity) (t .board) (t .rates) (askedOwn g (Changes o) s)) (sym (way-state (s .own) (s .state) o (wayAt o s)))
+      subst (λ (t : BoardTables). Rates (s .own .capacity) (t .board) (t .rates) (askedOwn g (Changes o) s)) (sym (way-state (s .own) (s .state) o (wayAt o s)))
       (all-asked (s .own) (s .state) (carriesOut (Changes o) s) g (is .stands .fine .tables) (is .rates))
   own-rates Slots = rw (first-clear (is .held) s (is .stands)) then-rates
   own-rates (Fetches t) = is .rates
@@ -140,13 +140,13 @@ module _ (hs : List Stream) (s : Pair) (is : Standing hs s) (rest : List Turn) (
 
   module _ (g : ℕ → ℕ) (rates : Rates C B T g) (x : ℕ) (named : x ≡ 0 → ⊥) where
     -- a stream that is not over-allocated
-    pub serves-plain : g x ≡ 0 → zero < heldOf x (heldThen hs s) → times x (namesServed s (Own Slots ∷ rest)) ≡ heldOf x (heldThen hs s)
+    pub serves-plain : g x ≡ 0 → zero < heldOf x (heldThen hs s) → occurrences x (namesServed s (Own Slots ∷ rest)) ≡ heldOf x (heldThen hs s)
     unfolding servedWeight
     serves-plain z held =
         let w = ran-sound hs s is .names x named in
         let on : zero < weight C B x = omega arith in
         let rate : getD T (lowest C B x) 0 ≡ 0 = sym (rate-held C B T x on) ∙ sym (rates x named) ∙ z in
-        ap (times x) (round-order hs s is (full .first) rest full)
+        ap (occurrences x) (round-order hs s is (full .first) rest full)
         ∙ round-serves C B T (few hs s is) (some hs s is) fit x named on
         ∙ rw (eq-eqb (getD T (lowest C B x) 0) 0 rate) w
 
@@ -164,35 +164,35 @@ module _ (hs : List Stream) (s : Pair) (is : Standing hs s) (rest : List Turn) (
       one-ones : ones (heldFor r) ≡ 1
       one-ones =
           let p = one-piece C B T (lowest C B x) (few hs s is) (ran-sound hs s is .fine) fit (over .below) over-some in
-          sym (ap ones over-holds) ∙ sym (amended.held-pieces (ranPlain s) (heldThen hs s) (ran-sound hs s is) x named) ∙ ap (number C B) (sym (over .name)) ∙ p
+          sym (ap ones over-holds) ∙ sym (amended.held-pieces (ranPlain s) (heldThen hs s) (ran-sound hs s is) x named) ∙ ap (pieceCount C B) (sym (over .name)) ∙ p
 
       -- and is served r times,
-      pub serves-over : times x (namesServed s (Own Slots ∷ rest)) ≡ r
+      pub serves-over : occurrences x (namesServed s (Own Slots ∷ rest)) ≡ r
       unfolding servedWeight
       serves-over =
           let q = over .rate in
           let on : zero < weight C B x = let h = over .holds in omega (arith, held-some r positive) in
-          ap (times x) (round-order hs s is (full .first) rest full)
+          ap (occurrences x) (round-order hs s is (full .first) rest full)
           ∙ round-serves C B T (few hs s is) (some hs s is) fit x named on
           ∙ rw (ne-eqb (getD T (lowest C B x) 0) 0 over-some) q
 
       -- in the first n slots as often as its leaves among them times r / R, rounded up.
       pub serves-first : (n : ℕ)
-          → times x (inARow 0 n (namesServed s (Own Slots ∷ rest))) ≡ (times x (inARow 0 n (leavesGiven s (Own Slots ∷ rest))) * r + (heldFor r - 1)) / heldFor r
+          → occurrences x (inARow 0 n (namesServed s (Own Slots ∷ rest))) ≡ (occurrences x (inARow 0 n (leavesGiven s (Own Slots ∷ rest))) * r + (heldFor r - 1)) / heldFor r
       unfolding slotNames
       serves-first n =
           let L = leavesFrom C 1 C in
           let i = lowest C B x in
           let served : inARow 0 n (namesServed s (Own Slots ∷ rest)) ≡ namesAlong C B T E (take n L) =
           ap (take n) (along-round hs s is (full .first) rest full) ∙ take-along C B T E n L in
-          let given : times x (inARow 0 n (leavesGiven s (Own Slots ∷ rest))) ≡ countList (λ a. eqb (getD B a 0) x) (take n L) =
-          ap (λ (l : List ℕ). times x (take n l)) (gives .order) ∙ ap (times x) (take-map (λ (a : ℕ). getD B a 0) n L) ∙ count-map (λ y. eqb y x) (λ (a : ℕ). getD B a 0) (take n L) in
+          let given : occurrences x (inARow 0 n (leavesGiven s (Own Slots ∷ rest))) ≡ countList (λ a. eqb (getD B a 0) x) (take n L) =
+          ap (λ (l : List ℕ). occurrences x (take n l)) (gives .order) ∙ ap (occurrences x) (take-map (λ (a : ℕ). getD B a 0) n L) ∙ count-map (λ y. eqb y x) (λ (a : ℕ). getD B a 0) (take n L) in
           let one = serves-along C B T fit i (over .below) over-some E (ran-fine hs s is .tables .owed) (ran-zero hs s is (full .first) i (over .below)) (take n L) in
-          ap (times x) served ∙ rw (over .name, over .rate) at one ∙ rw given refl
+          ap (occurrences x) served ∙ rw (over .name, over .rate) at one ∙ rw given refl
 
       -- In any t slots in a row its leaves are near their share, as those of one piece of R.
       pub given-fair : (i t : ℕ) → i + t ≤ s .own .capacity
-          → Near (s .own .capacity * times x (inARow i t (leavesGiven s (Own Slots ∷ rest)))) (heldFor r * t) (pieceBound (s .own .capacity) (heldFor r))
+          → Near (s .own .capacity * occurrences x (inARow i t (leavesGiven s (Own Slots ∷ rest)))) (heldFor r * t) (pieceBound (s .own .capacity) (heldFor r))
       given-fair i t within =
           let f = gives .fair x (heldFor r) i t over-holds (held-some r positive) within in
           let b : bound C (heldFor r) ≡ pieceBound C (heldFor r) = rw one-ones (omega arith) in

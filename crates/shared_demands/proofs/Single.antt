@@ -1,5 +1,4 @@
--- What a single drive sees, its record in both places, is what one of two drives sees that take their slots in step.
--- Assumes nothing.
+-- What a single drive sees, its record in both places, is what one of two drives sees that take their slots in step. Assumes nothing.
 use mathlib.Core.Path.{_≡_, refl, sym, ap, ap₂, subst, _∙_}
 use mathlib.Core.Bool.{true, false}
 use mathlib.Core.List.{List, [], _∷_, _++_}
@@ -12,7 +11,7 @@ use borrow.Author.Tests.{lt-ltb, le-ltb, eq-eqb}
 use Rattle.general.proofs.Laws.{by-bool}
 use Rattle.pieces.specs.Board.{good}
 use Rattle.calls.specs.declared.Drive.{Drive}
-use Rattle.calls.specs.declared.Check.the-variants.{Clear, Refused}
+use Rattle.calls.specs.declared.Check.the-variants.{Clear}
 use Rattle.calls.specs.Results.{movedOn}
 use Rattle.tables.proofs.Laws.{fits-parts, fits-first, first-fits, fits-swap}
 use Rattle.demands.specs.Histories as plainly
@@ -21,13 +20,13 @@ use Rattle.waiting.specs.declared.Order.{Order}
 use Rattle.waiting.specs.declared.Outcome.{Outcome}
 use Rattle.waiting.specs.Layout.{least, answersIn, ordersIn, placesIn, waiting, counted, answeredFrom, settled, takenList}
 use Rattle.waiting.specs.Carrying.{carriedAll, outcomes}
-use Rattle.waiting.proofs.Laws.{run-length, none-waits}
+use Rattle.waiting.proofs.Laws.{run-length, none-waits, least-small}
 use Rattle.orders.specs.declared.Way.{Way}
 use Rattle.orders.specs.declared.Way.the-variants as way
 use Rattle.orders.specs.Results.{listBy}
 use Rattle.drives.specs.Checks.{bothStart}
 use Rattle.drives.proofs.Laws.{start-both}
-use Rattle.shares.specs.States.{State}
+use Rattle.shares.specs.States.{BoardTables}
 use Rattle.shares.specs.Checks.{wayOf}
 use Rattle.shares.specs.Results.{carriedRates, carriedState, doing, saying, ranState, ranList, stateBy, stateThen, listThen, turnState}
 use Rattle.amended.specs.Deeds.{desk}
@@ -56,13 +55,6 @@ least-most m n = elim (decLt m n) [
   | no l ↦ rw (le-ltb m n (omega arith)) (omega arith)
 ]
 
-least-same : (m n : ℕ) → m ≤ n → least m n ≡ m
-unfolding least
-least-same m n h = elim (decLt m n) [
-  | yes l ↦ rw (lt-ltb m n l) refl
-  | no l ↦ rw (le-ltb m n (omega arith)) (omega arith)
-]
-
 run-again : (L : List ℕ) (rs : List Outcome) → 259 ≤ length L → settled (settled L rs) [] ≡ settled L rs
 unfolding settled counted answersIn ordersIn
 run-again L rs long =
@@ -73,27 +65,27 @@ run-again L rs long =
     let wide : 259 ≤ length X = omega (arith, run-length L rs, length-set X 1 n, length-set (set X 1 n) 2 0) in
     let first : getD M 1 0 ≡ n = getD-set-other (set X 1 n) 2 1 0 0 (λ e. omega arith) ∙ getD-set-same X 1 n 0 (omega arith) in
     let second : getD M 2 0 ≡ 0 = getD-set-same (set X 1 n) 2 0 0 (omega (arith, length-set X 1 n)) in
-    let places : placesIn M ≡ getD M 1 0 = rw (first, second, least-same n 64 most, least-same 0 (64 - n) (omega arith)) (omega arith) in
+    let places : placesIn M ≡ getD M 1 0 = rw (first, second, least-small n 64 most, least-small 0 (64 - n) (omega arith)) (omega arith) in
     idle-list M places second
 
 -- ---- the second table plays no part
 
-carried-both : (d : Drive) (t : State) (o : Order) → carriedState d (both t) o ≡ both (carriedState d t o)
+carried-both : (d : Drive) (t : BoardTables) (o : Order) → carriedState d (both t) o ≡ both (carriedState d t o)
 unfolding carriedRates
 carried-both d t o = refl
 
-all-both : (d : Drive) (t : State) (os : List Order) → carriedAll (doing d) (both t) os ≡ both (carriedAll (doing d) t os)
+all-both : (d : Drive) (t : BoardTables) (os : List Order) → carriedAll (doing d) (both t) os ≡ both (carriedAll (doing d) t os)
 unfolding carriedAll
 all-both d t [] = refl
-all-both d t (o ∷ os) = ap (λ (u : State). carriedAll (doing d) u os) (carried-both d t o) ∙ all-both d (carriedState d t o) os
+all-both d t (o ∷ os) = ap (λ (u : BoardTables). carriedAll (doing d) u os) (carried-both d t o) ∙ all-both d (carriedState d t o) os
 
-said-both : (d : Drive) (t : State) (os : List Order) → outcomes (doing d) (saying d) (both t) os ≡ outcomes (doing d) (saying d) t os
+said-both : (d : Drive) (t : BoardTables) (os : List Order) → outcomes (doing d) (saying d) (both t) os ≡ outcomes (doing d) (saying d) t os
 unfolding outcomes
 said-both d t [] = refl
 said-both d t (o ∷ os) =
-    ap (λ (rs : List Outcome). saying d o t ∷ rs) (ap (λ (u : State). outcomes (doing d) (saying d) u os) (carried-both d t o) ∙ said-both d (carriedState d t o) os)
+    ap (λ (rs : List Outcome). saying d o t ∷ rs) (ap (λ (u : BoardTables). outcomes (doing d) (saying d) u os) (carried-both d t o) ∙ said-both d (carriedState d t o) os)
 
-way-both : (d : Drive) (t : State) (o : Order) (k : Way) → stateBy k (carriedState d (both t) o) (both t) ≡ both (stateBy k (carriedState d t o) t)
+way-both : (d : Drive) (t : BoardTables) (o : Order) (k : Way) → stateBy k (carriedState d (both t) o) (both t) ≡ both (stateBy k (carriedState d t o) t)
 way-both d t o (way.Refused r) = refl
 way-both d t o way.Wait = refl
 way-both d t o way.Now = carried-both d t o
@@ -106,7 +98,7 @@ Fit s = Lent (s .drive) (s .drive) (s .state) (length (s .list))
 tabled : (s : One) → Fit s → Tabled (s .drive .capacity) (s .state)
 tabled s is = record { rates = is .rates; owed = is .owed; other = is .others; fit = is .fit }
 
-both-tabled : (C : ℕ) (t : State) → Tabled C t → Tabled C (both t)
+both-tabled : (C : ℕ) (t : BoardTables) → Tabled C t → Tabled C (both t)
 both-tabled C t is =
     let p = fits-first C (t .board) (t .rates) (t .owed) (t .other ∷ []) (is .fit) in
     let q = fits-first C (t .board) (t .rates) (t .other) [] (p .1) in
@@ -121,15 +113,15 @@ start-is : (d : Drive) → d .position ≡ 1 → bothStart d d ≡ true
 unfolding bothStart
 start-is d e = rw (eq-eqb (d .position) 1 e) refl
 
-list-ran : (a b : Drive) (x : State) (L : List ℕ) → bothStart a b ≡ true → waiting L ≡ [] → listThen a b x L ≡ settled L []
+list-ran : (a b : Drive) (x : BoardTables) (L : List ℕ) → bothStart a b ≡ true → waiting L ≡ [] → listThen a b x L ≡ settled L []
 unfolding listThen ranList outcomes
 list-ran a b x L e n = rw (e, n) refl
 
-list-not : (a b : Drive) (x : State) (L : List ℕ) → bothStart a b ≡ false → listThen a b x L ≡ L
+list-not : (a b : Drive) (x : BoardTables) (L : List ℕ) → bothStart a b ≡ false → listThen a b x L ≡ L
 unfolding listThen
 list-not a b x L e = rw e refl
 
-state-same : (a b : Drive) (x : State) (L : List ℕ) → (bothStart a b ≡ true → waiting L ≡ []) → stateThen a b x L ≡ x
+state-same : (a b : Drive) (x : BoardTables) (L : List ℕ) → (bothStart a b ≡ true → waiting L ≡ []) → stateThen a b x L ≡ x
 unfolding stateThen ranState carriedAll
 state-same a b x L n = by-bool (bothStart a b) (λ e. rw (e, n e) refl) (λ e. rw e refl)
 
@@ -137,7 +129,7 @@ module _ (s : One) (is : Fit s) where
   abbrev d : Drive
   d = s .drive
 
-  abbrev t : State
+  abbrev t : BoardTables
   t = s .state
 
   abbrev L : List ℕ
@@ -156,20 +148,19 @@ module _ (s : One) (is : Fit s) where
       let fine : good (d .capacity) (t .board) ≡ true = fits-parts (d .capacity) (t .board) (t .rates) (t .owed ∷ t .other ∷ []) (is .fit) .0 in
       amended.ready-sound (desk d (t .board) L) (record { clear = is .own; fine = fine; long = is .long })
 
-  abbrev r : State
+  abbrev r : BoardTables
   r = ranState' (twice s)
 
   ran-tabled : Tabled (d .capacity) r
-  ran-tabled = subst (λ (u : State). Tabled (d .capacity) u) (sym (due-ran (twice s))) (all-tabled d t (due (twice s)) (tabled s is))
+  ran-tabled = subst (λ (u : BoardTables). Tabled (d .capacity) u) (sym (due-ran (twice s))) (all-tabled d t (due (twice s)) (tabled s is))
 
   one-tabled : (a : Deed) → Tabled (d .capacity) (leavesOne a s .state)
-  one-tabled (Changes o) = subst (λ (u : State). Tabled (d .capacity) u) (sym (way-state d t o (wayAt o (twice s)))) (all-tabled d t (ifNow (wayAt o (twice s)) o) (tabled s is))
+  one-tabled (Changes o) = subst (λ (u : BoardTables). Tabled (d .capacity) u) (sym (way-state d t o (wayAt o (twice s)))) (all-tabled d t (ifNow (wayAt o (twice s)) o) (tabled s is))
   one-tabled Slots = rw one-clear (turn-tabled d r (sound .valid .at) ran-tabled)
   one-tabled (Fetches n) = tabled s is
 
   one-valid : (a : Deed) → Valid (shown (twice (leavesOne a s)))
-  one-valid a =
-      subst (λ (w : plainly.State). Valid w) (sym (projected-one (Own a) (twice s)))
+  one-valid a = subst (λ (w : plainly.State). Valid w) (sym (projected-one (Own a) (twice s)))
       (reached (shown (twice s)) (holding.onBoard (shown (twice s))) sound (standsFor (Own a) (twice s)) .valid)
 
   pub one-fit : (a : Deed) → Fit (leavesOne a s)
@@ -197,9 +188,8 @@ module _ (s : One) (is : Fit s) where
   way-same o = rw (one-clear, step-clear) refl
 
   change-step : (o : Order) → leaves (Own (Changes o)) (inStep s) ≡ inStep (leavesOne (Changes o) s)
-  change-step o =
-      rw (way-same o)
-      (ap (λ (u : State). record { own = d; other = d; state = u; list = listBy (wayAt o (twice s)) (takenList L o) L }) (way-both d t o (wayAt o (twice s))))
+  change-step o = rw (way-same o)
+      (ap (λ (u : BoardTables). record { own = d; other = d; state = u; list = listBy (wayAt o (twice s)) (takenList L o) L }) (way-both d t o (wayAt o (twice s))))
 
   pub change-says : (o : Order) → answersOwn (Changes o) (inStep s) ≡ answersOwn (Changes o) (twice s)
   change-says o = rw (way-same o) refl
@@ -252,10 +242,10 @@ module _ (s : One) (is : Fit s) where
       let b : bothStart d d ≡ true = start-is d p in
       rw b (none-waits (doing d) (saying d) t L (is .long), run-again L (outcomes (doing d) (saying d) t (waiting L)) (is .long))
 
-  mid-state : (x : State) → stateThen d (movedOn d) x L′ ≡ x
+  mid-state : (x : BoardTables) → stateThen d (movedOn d) x L′ ≡ x
   mid-state x = state-same d (movedOn d) x L′ (λ e. nothing-waits e .0)
 
-  mid-list : (x : State) → listThen d (movedOn d) x L′ ≡ L′
+  mid-list : (x : BoardTables) → listThen d (movedOn d) x L′ ≡ L′
   mid-list x = by-bool (bothStart d (movedOn d))
       (λ e. let n = nothing-waits e in list-ran d (movedOn d) x L′ e (n .0) ∙ n .1)
       (λ e. list-not d (movedOn d) x L′ e)

@@ -1,6 +1,5 @@
 -- What is held stands on the board, for each drive, the tables fit it, and each drive's deficits are told by its place in its round, whatever calls are made. Shown
--- for a call of the own drive; for the other's the records and the deficits are exchanged.
--- Assumes nothing.
+-- for a call of the own drive; for the other's the records and the deficits are exchanged. Assumes nothing.
 use mathlib.Core.Path.{_≡_, refl, sym, ap, subst, _∙_}
 use mathlib.Core.Bool.{true}
 use mathlib.Core.List.{List, [], _∷_}
@@ -10,11 +9,12 @@ use lib.ListN.{length}
 use Rattle.general.proofs.Laws.{by-bool}
 use Rattle.pieces.specs.Board.{good}
 use Rattle.calls.specs.declared.Check.the-variants.{Clear, Refused}
+use Rattle.calls.proofs.Laws.{either-length}
 use Rattle.tables.specs.Sharing.{allZero}
 use Rattle.tables.proofs.Laws.{zero-elim, fits-parts}
 use Rattle.demands.specs.Histories.{after}
 use Rattle.demands.specs.Histories as plainly
-use Rattle.demands.specs.Holdings.{Stream}
+use Rattle.pieces.specs.Streams.{Stream}
 use Rattle.demands.proofs.Laws.{Sound, reached, moves, slot-clear}
 use Rattle.waiting.specs.declared.Order.{Order}
 use Rattle.waiting.specs.Layout.{waiting}
@@ -24,7 +24,7 @@ use Rattle.orders.specs.declared.Way.{Way}
 use Rattle.orders.specs.declared.Way.the-variants as way
 use Rattle.drives.specs.Checks.{bothStart}
 use Rattle.drives.proofs.Laws.{start-both}
-use Rattle.shares.specs.States.{State}
+use Rattle.shares.specs.States.{BoardTables}
 use Rattle.shares.specs.Results.{carriedState, doing, saying, ranState, ranList, stateBy, stateThen, listThen}
 use Rattle.amended.specs.Deeds.{desk}
 use Rattle.amended.specs.Holding.{onLeaves}
@@ -45,7 +45,7 @@ run-list s = by-bool (bothStart (s .own) (s .other))
 
 pub list-length : (a : Deed) (s : Pair) → length (listAfter a s) ≡ length (s .list)
 list-length (Changes o) s = amended.by-way (s .list) o (wayAt o s)
-list-length Slots s = amended.by-check (firstChecks s) (listThen (s .own) (s .other) (s .state) (s .list)) (s .list) (run-list s)
+list-length Slots s = either-length (firstChecks s) (listThen (s .own) (s .other) (s .state) (s .list)) (s .list) (run-list s)
 list-length (Fetches t) s = fetch-length (s .list) t
 
 -- ---- what stands
@@ -69,7 +69,7 @@ standing-turned hs s is =
           (tabling-turned C (s .own .position) (s .other .position) (s .state) (is .fine));
     }
 
-placed-at : (C : ℕ) (t : State) (p q m n : ℕ) → p ≡ m → q ≡ n → Tabling C p q t → Tabling C m n t
+placed-at : (C : ℕ) (t : BoardTables) (p q m n : ℕ) → p ≡ m → q ≡ n → Tabling C p q t → Tabling C m n t
 placed-at C t p q m n e f is = subst (λ (k : ℕ). Tabling C m k t) f (subst (λ (k : ℕ). Tabling C k q t) e is)
 
 module _ (hs : List Stream) (s : Pair) (is : Standing hs s) where

@@ -17,7 +17,8 @@ use Rattle.calls.specs.Results.{ifClear, movedOn}
 use Rattle.calls.proofs.Laws.{number-some}
 use Rattle.demands.specs.Histories.{Slot, says, after, log}
 use Rattle.demands.specs.Histories as plainly
-use Rattle.demands.specs.Holdings.{Stream, heldFrom}
+use Rattle.pieces.specs.Streams.{Stream}
+use Rattle.demands.specs.Holdings.{heldFrom}
 use Rattle.demands.specs.Rounds.{names}
 use Rattle.demands.proofs.Laws.{stateAt, slot-clear, clear-valid, same-either, after-append, names-append, held-append}
 use Rattle.waiting.specs.declared.Order.{Order}
@@ -29,9 +30,9 @@ use Rattle.orders.specs.Results as orders
 use Rattle.orders.proofs.Laws.{all-length}
 use Rattle.drives.specs.Checks.{bothStart}
 use Rattle.drives.proofs.Laws.{start-both, all-alike}
-use Rattle.shares.specs.States.{State}
-use Rattle.shares.specs.Results.{onBoard, carriedState, doing, ranState, stateBy, stateThen, turnState, servedAnswerBy}
-use Rattle.amended.specs.Histories.{through, along, following, Each}
+use Rattle.shares.specs.States.{BoardTables}
+use Rattle.shares.specs.Results.{boardOrder, carriedState, doing, ranState, stateBy, stateThen, turnState, servedAnswerBy}
+use Rattle.amended.specs.Histories.{through, following, Each}
 use Rattle.amended.specs.Carried.{actsOf}
 use Rattle.amended.proofs.Laws as amended
 use Rattle.shared_demands.specs.Turns.{Pair, exchanged, shown, firstChecks, wayAt, Deed, Changes, Slots, Fetches, leavesOwn, Turn, Own, Other, leaves, leavesAll, turnedAll, due, ifNow, carriesOut, actsFor, shared, alone, standsFor, plain, onLeaf, givenOwn, leafGiven, leavesGiven}
@@ -49,20 +50,20 @@ turned-leaves s (Other a ∷ turns) = turned-leaves (leaves (Other a) s) turns
 -- ---- what a call carries out is all that it does to the board
 
 -- the board that orders leave
-carried-board : (d : Drive) (t : State) (os : List Order) → carriedAll (doing d) t os .board ≡ carriedAll (orders.doing d) (t .board) (map onBoard os)
+carried-board : (d : Drive) (t : BoardTables) (os : List Order) → carriedAll (doing d) t os .board ≡ carriedAll (orders.doing d) (t .board) (map boardOrder os)
 unfolding carriedAll
 carried-board d t [] = refl
 carried-board d t (o ∷ os) = carried-board d (carriedState d t o) os
 
 -- the board and the tables once the list has run, if it runs
-abbrev pub ranState' : Pair → State
+abbrev pub ranState' : Pair → BoardTables
 ranState' s = stateThen (s .own) (s .other) (s .state) (s .list)
 
 pub due-ran : (s : Pair) → ranState' s ≡ carriedAll (doing (s .own)) (s .state) (due s)
 unfolding due stateThen ranState carriedAll
 due-ran s = by-bool (bothStart (s .own) (s .other)) (λ t. rw t refl) (λ f. rw f refl)
 
-pub way-state : (d : Drive) (t : State) (o : Order) (k : Way) → stateBy k (carriedState d t o) t ≡ carriedAll (doing d) t (ifNow k o)
+pub way-state : (d : Drive) (t : BoardTables) (o : Order) (k : Way) → stateBy k (carriedState d t o) t ≡ carriedAll (doing d) t (ifNow k o)
 unfolding carriedAll
 way-state d t o (way.Refused r) = refl
 way-state d t o way.Wait = refl
@@ -70,12 +71,12 @@ way-state d t o way.Now = refl
 
 slot-board : (s : Pair) (k : Check) → ifClear k (turnState (s .own) (ranState' s)) (s .state) .board ≡ carriedAll (doing (s .own)) (s .state) (ifClear k (due s) []) .board
 unfolding carriedAll
-slot-board s Clear = ap (λ (t : State). t .board) (due-ran s)
+slot-board s Clear = ap (λ (t : BoardTables). t .board) (due-ran s)
 slot-board s (Refused r) = refl
 
-own-board : (a : Deed) (s : Pair) → leavesOwn a s .state .board ≡ carriedAll (orders.doing (s .own)) (s .state .board) (map onBoard (carriesOut a s))
+own-board : (a : Deed) (s : Pair) → leavesOwn a s .state .board ≡ carriedAll (orders.doing (s .own)) (s .state .board) (map boardOrder (carriesOut a s))
 unfolding carriedAll
-own-board (Changes o) s = ap (λ (t : State). t .board) (way-state (s .own) (s .state) o (wayAt o s)) ∙ carried-board (s .own) (s .state) (carriesOut (Changes o) s)
+own-board (Changes o) s = ap (λ (t : BoardTables). t .board) (way-state (s .own) (s .state) o (wayAt o s)) ∙ carried-board (s .own) (s .state) (carriesOut (Changes o) s)
 own-board Slots s = slot-board s (firstChecks s) ∙ carried-board (s .own) (s .state) (carriesOut Slots s)
 own-board (Fetches t) s = refl
 
@@ -83,49 +84,41 @@ own-board (Fetches t) s = refl
 
 module _ {X : Type 0} (f : Drive → List Order → X) (none : (a b : Drive) → f a [] ≡ f b [])
     (some : (a b : Drive) → a .capacity ≡ b .capacity → a .position ≡ b .position → (os : List Order) → f a os ≡ f b os) where
-  both : (s : Pair) → firstChecks s ≡ Clear → bothStart (s .own) (s .other) ≡ true → (os : List Order) → f (s .own) os ≡ f (s .other) os
-  both s e t os =
+  both : (s : Pair) → firstChecks s ≡ Clear → bothStart (s .own) (s .other) ≡ true → (s .own .capacity ≡ s .other .capacity) × (s .own .position ≡ s .other .position)
+  both s e t =
       let p = start-both (s .own) (s .other) t in
-      some (s .own) (s .other) (share-lent (s .own) (s .other) (s .state) (length (s .list)) e .same) (p .0 ∙ sym (p .1)) os
-
-  way-alike : (s : Pair) (o : Order) (k : Way) → wayAt o s ≡ k → f (s .own) (ifNow k o) ≡ f (s .other) (ifNow k o)
-  way-alike s o (way.Refused r) e = none (s .own) (s .other)
-  way-alike s o way.Wait e = none (s .own) (s .other)
-  way-alike s o way.Now e = let n = now-both (s .own) (s .other) (s .state) (s .list) o e in both s (n .0) (n .1) (o ∷ [])
-
-  slot-alike : (s : Pair) (k : Check) → firstChecks s ≡ k → f (s .own) (ifClear k (due s) []) ≡ f (s .other) (ifClear k (due s) [])
-  unfolding due
-  slot-alike s (Refused r) e = none (s .own) (s .other)
-  slot-alike s Clear e = by-bool (bothStart (s .own) (s .other)) (λ t. rw t (both s e t (waiting (s .list)))) (λ t. rw t (none (s .own) (s .other)))
+      (share-lent (s .own) (s .other) (s .state) (length (s .list)) e .same, p .0 ∙ sym (p .1))
 
   pub carries-alike : (a : Deed) (s : Pair) → f (s .own) (carriesOut a s) ≡ f (s .other) (carriesOut a s)
-  carries-alike (Changes o) s = way-alike s o (wayAt o s) refl
-  carries-alike Slots s = slot-alike s (firstChecks s) refl
+  unfolding due
+  carries-alike (Changes o) s = amended.way-alike f none some (s .own) (s .other) o (wayAt o s) (λ e.
+      let n = now-both (s .own) (s .other) (s .state) (s .list) o e in
+      both s (n .0) (n .1))
+  carries-alike Slots s = amended.run-alike f none some (s .own) (s .other) (firstChecks s) (bothStart (s .own) (s .other)) (waiting (s .list)) (both s)
   carries-alike (Fetches t) s = none (s .own) (s .other)
 
-none-board : (B : List ℕ) (a b : Drive) → carriedAll (orders.doing a) B (map onBoard []) ≡ carriedAll (orders.doing b) B (map onBoard [])
+none-board : (B : List ℕ) (a b : Drive) → carriedAll (orders.doing a) B (map boardOrder []) ≡ carriedAll (orders.doing b) B (map boardOrder [])
 unfolding carriedAll
 none-board B a b = refl
 
 -- the acts of both drives leave the board that the call leaves, in either drive's history
 own-shared : (a : Deed) (s : Pair) → after (shown s) (shared a s) ≡ stateAt (s .own) (leavesOwn a s .state .board)
-own-shared a s = amended.carry-all (s .own) (s .state .board) (map onBoard (carriesOut a s)) ∙ ap (stateAt (s .own)) (sym (own-board a s))
+own-shared a s = amended.carry-all (s .own) (s .state .board) (map boardOrder (carriesOut a s)) ∙ ap (stateAt (s .own)) (sym (own-board a s))
 
 other-shared : (a : Deed) (s : Pair) → after (shown (exchanged s)) (shared a s) ≡ stateAt (s .other) (leavesOwn a s .state .board)
 other-shared a s =
     let B = s .state .board in
-    amended.carry-all (s .other) B (map onBoard (carriesOut a s))
+    amended.carry-all (s .other) B (map boardOrder (carriesOut a s))
     ∙ ap (stateAt (s .other)) (sym (own-board a s
-    ∙ carries-alike (λ (d : Drive) (os : List Order). carriedAll (orders.doing d) B (map onBoard os)) (none-board B)
-    (λ c d ec ep os. all-alike c d ec ep B (map onBoard os)) a s))
+    ∙ carries-alike (λ (d : Drive) (os : List Order). carriedAll (orders.doing d) B (map boardOrder os)) (none-board B)
+    (λ c d ec ep os. all-alike c d ec ep B (map boardOrder os)) a s))
 
 abbrev pub ranPlain : Pair → plainly.State
 ranPlain s = stateAt (s .own) (ranState' s .board)
 
 pub due-state : (s : Pair) → after (shown s) (actsFor (due s)) ≡ ranPlain s
-due-state s =
-    amended.carry-all (s .own) (s .state .board) (map onBoard (due s))
-    ∙ ap (stateAt (s .own)) (sym (ap (λ (t : State). t .board) (due-ran s) ∙ carried-board (s .own) (s .state) (due s)))
+due-state s = amended.carry-all (s .own) (s .state .board) (map boardOrder (due s))
+    ∙ ap (stateAt (s .own)) (sym (ap (λ (t : BoardTables). t .board) (due-ran s) ∙ carried-board (s .own) (s .state) (due s)))
 
 -- ---- what a call is beside: a slot of its own drive
 
@@ -133,9 +126,9 @@ then-slot : (s : Pair) → firstChecks s ≡ Clear → slotCheck (s .own) (ranSt
 then-slot s e =
     let v = clear-valid (shown s) (share-lent (s .own) (s .other) (s .state) (length (s .list)) e .own) in
     let long = v .long in
-    let q = ap (λ (t : State). length (t .board)) (due-ran s) in
+    let q = ap (λ (t : BoardTables). length (t .board)) (due-ran s) in
     let l = ap (λ (B : List ℕ). length B) (carried-board (s .own) (s .state) (due s)) in
-    let m = all-length (s .own) (s .state .board) (map onBoard (due s)) in
+    let m = all-length (s .own) (s .state .board) (map boardOrder (due s)) in
     slot-clear (ranPlain s) (record { at = v .at; long = omega arith })
 
 slot-alone : (s : Pair) (k : Check) → firstChecks s ≡ k
@@ -154,8 +147,7 @@ own-alone (Fetches t) s = refl
 -- ---- the record and the board
 
 pub projected-one : (t : Turn) (s : Pair) → shown (leaves t s) ≡ after (shown s) (standsFor t s)
-projected-one (Own a) s =
-    sym (after-append (shown s) (shared a s) (alone a s)
+projected-one (Own a) s = sym (after-append (shown s) (shared a s) (alone a s)
     ∙ ap (λ (u : plainly.State). after u (alone a s)) (own-shared a s)
     ∙ own-alone a s)
 projected-one (Other a) s = sym (other-shared a (exchanged s))
@@ -186,11 +178,10 @@ own-given Slots s = slot-given s (firstChecks s) refl
 own-given (Fetches t) s = refl
 
 pub given-one : (t : Turn) (s : Pair) → leafGiven t s ≡ names (log (shown s) (standsFor t s))
-given-one (Own a) s =
-    own-given a s
+given-one (Own a) s = own-given a s
     ∙ ap (λ (u : plainly.State). names (log u (alone a s))) (sym (own-shared a s))
-    ∙ sym (names-append (shown s) (shared a s) (alone a s) ∙ rw (amended.acts-names (shown s) (map onBoard (carriesOut a s))) refl)
-given-one (Other a) s = sym (amended.acts-names (shown s) (map onBoard (carriesOut a (exchanged s))))
+    ∙ sym (names-append (shown s) (shared a s) (alone a s) ∙ rw (amended.acts-names (shown s) (map boardOrder (carriesOut a s))) refl)
+given-one (Other a) s = sym (amended.acts-names (shown s) (map boardOrder (carriesOut a (exchanged s))))
 
 -- The names on the leaves that the own drive's slots give are those that the plain calls serve.
 pub given-same : (s : Pair) (turns : List Turn) → leavesGiven s turns ≡ names (log (shown s) (plain s turns))
@@ -218,11 +209,10 @@ pub shared-held : (hs : List Stream) (a : Deed) (s : Pair) → heldFrom hs (log 
 shared-held hs a s =
     let B = s .state .board in
     carries-alike (λ (d : Drive) (os : List Order). heldFrom hs (log (stateAt d B) (actsFor os))) (none-held B hs)
-    (λ c d ec ep os. amended.held-alike c d ec ep B hs (map onBoard os)) a s
+    (λ c d ec ep os. amended.held-alike c d ec ep B hs (map boardOrder os)) a s
 
 pub own-held : (hs : List Stream) (a : Deed) (s : Pair) → heldFrom hs (log (shown s) (standsFor (Own a) s)) ≡ heldFrom hs (log (shown s) (shared a s))
-own-held hs a s =
-    held-append hs (shown s) (shared a s) (alone a s)
+own-held hs a s = held-append hs (shown s) (shared a s) (alone a s)
     ∙ alone-held (heldFrom hs (log (shown s) (shared a s))) (after (shown s) (shared a s)) a s
 
 held-one : (hs : List Stream) (t : Turn) (s : Pair) → heldNext hs t s ≡ heldFrom hs (log (shown s) (standsFor t s))
@@ -230,12 +220,7 @@ held-one hs (Own a) s = sym (own-held hs a s)
 held-one hs (Other a) s = shared-held hs a (exchanged s)
 
 pub held-plain : (hs : List Stream) (s : Pair) (turns : List Turn) → heldThrough hs s turns ≡ heldFrom hs (log (shown s) (plain s turns))
-unfolding following along heldFrom log
-held-plain hs s [] = refl
-held-plain hs s (t ∷ rest) =
-    held-plain (heldNext hs t s) (leaves t s) rest
-    ∙ rw (projected-one t s, held-one hs t s) refl
-    ∙ sym (held-append hs (shown s) (standsFor t s) (plain (leaves t s) rest))
+held-plain hs s turns = amended.held-projected leaves shown standsFor (λ t u. Unit {0}) (λ t u ok. projected-one t u) heldNext (λ gs t u ok. held-one gs t u) hs s turns (all-so s turns)
 
 -- and the other drive sees the same held.
 pub held-turned : (hs : List Stream) (s : Pair) (turns : List Turn) → heldThrough hs (exchanged s) (turnedAll turns) ≡ heldThrough hs s turns

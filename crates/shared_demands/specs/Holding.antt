@@ -11,10 +11,11 @@ use Rattle.calls.specs.declared.Check.the-variants.{Clear}
 use Rattle.calls.specs.Answers.{Answer}
 use Rattle.tables.specs.Sharing.{allZero}
 use Rattle.demands.specs.Histories.{log}
-use Rattle.demands.specs.Holdings.{Stream, heldFrom}
+use Rattle.pieces.specs.Streams.{Stream}
+use Rattle.demands.specs.Holdings.{heldFrom}
 use Rattle.waiting.specs.declared.Order.{Order}
 use Rattle.orders.specs.Results.{carriedAnswer, carriedBoard}
-use Rattle.shares.specs.Results.{onBoard}
+use Rattle.shares.specs.Results.{boardOrder}
 use Rattle.amended.specs.Histories.{following}
 use Rattle.amended.specs.Carried as carried
 use Rattle.amended.specs.Holding as holding
@@ -45,7 +46,7 @@ askedBy a o g y = cond (eqb (a .number) 0 && eqb y (o .name)) (cond (eqb (o .kin
 unfoldable pub askedAll : Drive → List ℕ → (ℕ → ℕ) → List Order → ℕ → ℕ
 unfolding askedBy
 askedAll d B g [] = g
-askedAll d B g (o ∷ os) = askedAll d (carriedBoard d B (onBoard o)) (askedBy (carriedAnswer d B (onBoard o)) o g) os
+askedAll d B g (o ∷ os) = askedAll d (carriedBoard d B (boardOrder o)) (askedBy (carriedAnswer d B (boardOrder o)) o g) os
 
 -- After calls.
 abbrev pub askedOwn : (ℕ → ℕ) → Deed → Pair → ℕ → ℕ
@@ -66,7 +67,7 @@ askedThen g s = askedAll (s .own) (s .state .board) g (due s)
 
 -- What an order is answered in its turn, when the orders ahead of it are carried out.
 abbrev pub inTurn : Pair → List Order → Order → Answer
-inTurn s ahead o = carried.inTurn (shown s) (map onBoard ahead) (onBoard o)
+inTurn s ahead o = carried.inTurn (shown s) (map boardOrder ahead) (boardOrder o)
 
 -- The streams on the board where a history begins.
 abbrev pub streamsOn : Pair → List Stream

@@ -8,8 +8,8 @@ use lib.Dec.{eqb}
 use Rattle.pieces.specs.Board.{weight}
 use Rattle.calls.specs.Refusals.{zeroOr}
 use Rattle.calls.specs.Answers.{Answer}
+use Rattle.demands.specs.Refusing.{zeros}
 use Rattle.waiting.specs.Layout.{lastTicket}
-use Rattle.amended.specs.Refusing.{zeros}
 use Rattle.shared_demands.specs.Turns.{Pair, Deed, answersOwn, returned, stateAfter, listAfter}
 
 -- The numbers, beside 0, that an add, over-allocated or not, a remove and a slot may answer.

@@ -6,14 +6,14 @@ use mathlib.Core.List.{List, [], _∷_}
 use Prim.Native.Nat.{ℕ}
 use lib.ListN.{length}
 use Rattle.calls.specs.declared.Drive.{Drive}
-use Rattle.shares.specs.States.{State, lent}
+use Rattle.shares.specs.States.{BoardTables, lent}
 use Rattle.amended.specs.Histories.{through, along}
 use Rattle.shared_demands.specs.Turns.{Pair, Deed, Changes, Slots, Fetches, returned, stateAfter, listAfter, nameOwn, givenOwn, Turn, Own, Other}
 
 -- Its record, the board with the tables, and the list between two calls.
 pub record One : Type 0 where
   pub drive : Drive
-  pub state : State
+  pub state : BoardTables
   pub list : List ℕ
 
 -- What a call is given.
@@ -40,7 +40,7 @@ pub record FullOne (s : One) (rest : List Deed) : Type 0 where
   pub slots : length (namesOne s (Slots ∷ rest)) ≡ s .drive .capacity
 
 -- Two drives in step with it, on the same board: each has its record and its deficits,
-abbrev pub both : State → State
+abbrev pub both : BoardTables → BoardTables
 both t = lent (t .board) (t .rates) (t .owed) (t .owed)
 
 abbrev pub inStep : One → Pair

@@ -18,34 +18,31 @@ use Rattle.demands.specs.Histories as plainly
 use Rattle.waiting.specs.declared.Order.{Order}
 use Rattle.waiting.specs.Layout.{waiting, fetched, fetchedList}
 use Rattle.orders.specs.declared.Way.{Way}
-use Rattle.orders.specs.declared.Way.the-variants as way
 use Rattle.orders.specs.Answers.{fetchingAnswer}
 use Rattle.drives.specs.Checks.{bothStart}
-use Rattle.shares.specs.States.{State, lent}
+use Rattle.shares.specs.States.{BoardTables, lent}
 use Rattle.shares.specs.Checks.{listCheck, wayOf}
-use Rattle.shares.specs.Results.{onBoard, changed, changedAnswer, changedState, changedList, served, servedAnswer, servedState, servedList}
-use Rattle.amended.specs.Histories.{through, along}
+use Rattle.shares.specs.Results.{boardOrder, changed, changedAnswer, changedState, changedList, served, servedAnswer, servedState, servedList}
+pub use Rattle.amended.specs.Histories.{Own, Other, turned, turnedAll, Which, This, That}
+use Rattle.amended.specs.Histories.{through, along, TurnOf}
+pub use Rattle.amended.specs.Turns.{ifNow, nameIn}
 use Rattle.amended.specs.Carried.{actsOf}
 
 -- The records, the board with its tables, and the list between two calls: a drive's own record and deficits first.
 pub record Pair : Type 0 where
   pub own : Drive
   pub other : Drive
-  pub state : State
+  pub state : BoardTables
   pub list : List ℕ
 
 -- What the other drive sees.
-abbrev pub exchangedState : State → State
+abbrev pub exchangedState : BoardTables → BoardTables
 exchangedState t = lent (t .board) (t .rates) (t .other) (t .owed)
 
 abbrev pub exchanged : Pair → Pair
 exchanged s = record { own = s .other; other = s .own; state = exchangedState (s .state); list = s .list }
 
--- One of the two drives, and what it sees.
-pub data Which : Type 0 where
-  This : Which
-  That : Which
-
+-- What one of the two sees.
 abbrev pub seenBy : Which → Pair → Pair
 seenBy This s = s
 seenBy That s = exchanged s
@@ -83,7 +80,7 @@ returned Slots s = served (s .own) (s .other) (s .state) (s .list) .drive
 returned (Fetches t) s = s .own
 
 -- What it leaves of the board and the tables, and of the list.
-abbrev pub stateAfter : Deed → Pair → State
+abbrev pub stateAfter : Deed → Pair → BoardTables
 stateAfter (Changes o) s = changedState (s .own) (s .other) (s .state) (s .list) o
 stateAfter Slots s = servedState (s .own) (s .other) (s .state) (s .list)
 stateAfter (Fetches t) s = s .state
@@ -98,9 +95,8 @@ leavesOwn a s = record { own = returned a s; other = s .other; state = stateAfte
 
 -- ---- a call of either drive
 
-pub data Turn : Type 0 where
-  Own : Deed → Turn
-  Other : Deed → Turn
+abbrev pub Turn : Type 0
+Turn = TurnOf Deed
 
 abbrev pub answers : Turn → Pair → Answer
 answers (Own a) s = answersOwn a s
@@ -114,14 +110,6 @@ leaves (Other a) s = exchanged (leavesOwn a (exchanged s))
 abbrev pub leavesAll : Pair → List Turn → Pair
 leavesAll s turns = through leaves s turns
 
--- The same calls as the other drive sees them.
-abbrev pub turned : Turn → Turn
-turned (Own a) = Other a
-turned (Other a) = Own a
-
-abbrev pub turnedAll : List Turn → List Turn
-turnedAll turns = map turned turns
-
 -- ---- the plain history of the own drive
 
 -- The orders that the next slot, of either drive, carries out.
@@ -129,11 +117,6 @@ unfoldable pub due : Pair → List Order
 due s = cond (bothStart (s .own) (s .other)) (waiting (s .list)) []
 
 -- The orders that a call of the own drive carries out: these are acts of both drives.
-abbrev pub ifNow : Way → Order → List Order
-ifNow (way.Refused r) o = []
-ifNow way.Wait o = []
-ifNow way.Now o = o ∷ []
-
 abbrev pub carriesOut : Deed → Pair → List Order
 carriesOut (Changes o) s = ifNow (wayAt o s) o
 carriesOut Slots s = ifClear (firstChecks s) (due s) []
@@ -141,7 +124,7 @@ carriesOut (Fetches t) s = []
 
 -- Orders as plain acts: an over-allocated add of r is an add of R.
 abbrev pub actsFor : List Order → List Act
-actsFor os = actsOf (map onBoard os)
+actsFor os = actsOf (map boardOrder os)
 
 -- The acts of both, and the act of the own drive alone.
 abbrev pub shared : Deed → Pair → List Act
@@ -163,9 +146,6 @@ plain s turns = along leaves standsFor s turns
 -- ---- rounds of the own drive
 
 -- The name that a call serves to it: a slot of its own that is not refused says it first.
-abbrev pub nameIn : Answer → List ℕ
-nameIn a = cond (eqb (a .number) 0) (getD (a .values) 0 0 ∷ []) []
-
 abbrev pub nameOwn : Deed → Pair → List ℕ
 nameOwn (Changes o) s = []
 nameOwn Slots s = nameIn (answersOwn Slots s)

@@ -1,12 +1,12 @@
 -- Two is shared: where the board is good, the tables are zero and long enough, and no over-allocated order is given or waits, a change and a slot with tables are
--- those without, and the tables stay as they are.
--- Assumes nothing.
+-- those without, and the tables stay as they are. Assumes nothing.
 use mathlib.Core.Path.{_≡_, refl, sym, ap, ap₂, _∙_}
-use mathlib.Core.Bool.{Bool, true, false, _||_}
+use mathlib.Core.Bool.{Bool, true, false}
 use mathlib.Core.List.{List, [], _∷_}
 use Prim.Native.Nat.{ℕ, max, _<_}
 use native.Mathlib.Decide.{ℕ-discrete}
 use lib.ListN.{length}
+use Rattle.general.proofs.Laws.{or-false}
 use Rattle.pieces.specs.Board.{good}
 use Rattle.sequences.proofs.Laws.{leaf-below}
 use Rattle.tables.proofs.Laws.{Zero, plain-fits, plain-settled, plain-turn}
@@ -29,7 +29,7 @@ use Rattle.drives.specs.Checks as pair
 use Rattle.drives.specs.Checks.{pairCheck, bothStart}
 use Rattle.drives.specs.Results as drives
 use Rattle.drives.proofs.Laws.{pair-clear}
-use Rattle.shares.specs.States.{State, lent}
+use Rattle.shares.specs.States.{BoardTables, lent}
 use Rattle.shares.specs.Checks.{tooFew, shareCheck, listCheck, wayOf}
 use Rattle.shares.specs.Results.{tableAfter, carriedState, doing, saying, ranState, ranList, stateBy, changed, changedAnswer, changedState, changedList, stateIf, listIf, stateThen, listThen, turnState, servedBy, servedAnswerBy, served, servedAnswer, servedState, servedList}
 use Rattle.shares.proofs.Doings.{same-lent, on-plain, remove-state, plain-state}
@@ -39,17 +39,12 @@ unfoldable pub Plainly : List Order → Type 0
 Plainly [] = Unit {0}
 Plainly (o ∷ os) = (o .kind ≡ 3 → ⊥) × Plainly os
 
-or-false : (t : Bool) → (t || false) ≡ t
-or-false true = refl
-or-false false = refl
-
 -- ---- tables of zeros
 
 module _ (d : Drive) (T E F : List ℕ) (t : Zero (d .capacity) T) (e : Zero (d .capacity) E) (f : Zero (d .capacity) F) where
   after-zero : (B : List ℕ) (x : ℕ) (S : List ℕ) → Zero (d .capacity) S → tableAfter d B x S ≡ S
   unfolding tableAfter
-  after-zero B x S z =
-      rw (plain-settled (d .capacity) S z B (tidying.removed (d .capacity) B x)) (either (removeCheck d B x))
+  after-zero B x S z = rw (plain-settled (d .capacity) S z B (tidying.removed (d .capacity) B x)) (either (removeCheck d B x))
     where
       either : (k : Check) → ifClear k S S ≡ S
       either Clear = refl
@@ -69,14 +64,13 @@ module _ (d : Drive) (T E F : List ℕ) (t : Zero (d .capacity) T) (e : Zero (d 
   all-state : (B : List ℕ) (os : List Order) → Plainly os → carriedAll (doing d) (lent B T E F) os ≡ lent (carriedAll (plain.doing d) B os) T E F
   unfolding carriedAll Plainly
   all-state B [] p = refl
-  all-state B (o ∷ os) p = ap (λ (s : State). carriedAll (doing d) s os) (one-state B o (p .0)) ∙ all-state (plain.carriedBoard d B o) os (p .1)
+  all-state B (o ∷ os) p = ap (λ (s : BoardTables). carriedAll (doing d) s os) (one-state B o (p .0)) ∙ all-state (plain.carriedBoard d B o) os (p .1)
 
   all-said : (B : List ℕ) (os : List Order) → Plainly os → outcomes (doing d) (saying d) (lent B T E F) os ≡ outcomes (plain.doing d) (plain.saying d) B os
   unfolding outcomes Plainly
   all-said B [] p = refl
-  all-said B (o ∷ os) p =
-      ap₂ (λ (r : Outcome) (rs : List Outcome). r ∷ rs) (ap (λ (q : Order). plain.saying d q B) (on-plain o (p .0)))
-      (ap (λ (s : State). outcomes (doing d) (saying d) s os) (one-state B o (p .0)) ∙ all-said (plain.carriedBoard d B o) os (p .1))
+  all-said B (o ∷ os) p = ap₂ (λ (r : Outcome) (rs : List Outcome). r ∷ rs) (ap (λ (q : Order). plain.saying d q B) (on-plain o (p .0)))
+      (ap (λ (s : BoardTables). outcomes (doing d) (saying d) s os) (one-state B o (p .0)) ∙ all-said (plain.carriedBoard d B o) os (p .1))
 
   -- a turn
   turn-served : (k : Check) (D : List ℕ) → (k ≡ Clear → servedLeaf d < d .capacity)
@@ -96,8 +90,7 @@ module _ (a b : Drive) (B T E F L : List ℕ) (t : Zero (a .capacity) T) (e : Ze
   -- The checks are those without tables,
   pub check-agrees : (short : Bool) → shareCheck a b (lent B T E F) short ≡ pairCheck a b B short
   unfolding shareCheck
-  check-agrees short =
-      rw (long, or-false short, plain-fits (a .capacity) B T E F t e f, sound) (then-none (pairCheck a b B short))
+  check-agrees short = rw (long, or-false short, plain-fits (a .capacity) B T E F t e f, sound) (then-none (pairCheck a b B short))
 
   pub way-agrees : (o : Order) → wayOf a b (lent B T E F) L o ≡ pair.wayOf a b B L o
   unfolding wayOf pair.wayOf
@@ -150,8 +143,8 @@ module _ (a b : Drive) (B T E F L : List ℕ) (t : Zero (a .capacity) T) (e : Ze
       let z = state-then p in
       let below : pair.listCheck a b B (length L) ≡ Clear → servedLeaf a < a .capacity = λ h. leaf-below (a .capacity) (a .position) (slot-position a B (pair-clear a b B (tooShort (length L)) h .own)) in
       let s = turn-served a T E F t e f k (drives.boardThen a b B L) below in (
-        ap₂ (λ (j : Check) (u : State). servedBy j a u) c z ∙ s .0,
-        ap₂ (λ (j : Check) (u : State). servedAnswerBy j a u) c z ∙ s .1,
-        ap₂ (λ (j : Check) (u : State). ifClear j (turnState a u) (lent B T E F)) c z ∙ turn-left a T E F t e f k (drives.boardThen a b B L) B below,
+        ap₂ (λ (j : Check) (u : BoardTables). servedBy j a u) c z ∙ s .0,
+        ap₂ (λ (j : Check) (u : BoardTables). servedAnswerBy j a u) c z ∙ s .1,
+        ap₂ (λ (j : Check) (u : BoardTables). ifClear j (turnState a u) (lent B T E F)) c z ∙ turn-left a T E F t e f k (drives.boardThen a b B L) B below,
         ap₂ (λ (j : Check) (M : List ℕ). ifClear j M L) c (list-then p),
       )

@@ -24,19 +24,18 @@ use Rattle.calls.specs.declared.Check.the-variants.{Clear, Refused}
 use Rattle.calls.specs.declared.Change.{Change}
 use Rattle.calls.specs.declared.Change.the-variants as change
 use Rattle.calls.specs.declared.Changed.{Changed}
-use Rattle.calls.specs.Refusals.{numberOf, applies, firstOf, slotCheck, addCheck, removeCheck}
+use Rattle.calls.specs.Refusals.{numberOf, applies, firstOf, addCheck, removeCheck}
 use Rattle.calls.specs.Results as calls
 use Rattle.calls.specs.Results.{ifClear, admittedBy, changeBy}
 use Rattle.calls.specs.Promises as promised
-use Rattle.calls.proofs.Laws.{Sized, slot-sized, slot-parts, open-sized, then-clear, add-clear, add-weight, remove-clear}
-use Rattle.calls.specs.Refusals.{openCheck, positionCheck}
+use Rattle.calls.proofs.Laws.{add-clear, add-weight, remove-clear, either-length, slot-long}
 use Rattle.waiting.specs.declared.Order.{Order}
 use Rattle.waiting.specs.Carrying.{carriedAll}
 use Rattle.orders.specs.Results as plain
 use Rattle.orders.proofs.Laws.{carried-length}
-use Rattle.shares.specs.States.{State, lent, fitting}
+use Rattle.shares.specs.States.{BoardTables, lent, fitting}
 use Rattle.shares.specs.Checks.{Ready}
-use Rattle.shares.specs.Results.{onBoard, carried, tableAfter, ratesAfter, carriedRates, carriedOwed, carriedState, doing}
+use Rattle.shares.specs.Results.{boardOrder, carried, tableAfter, ratesAfter, carriedRates, carriedOwed, carriedState, doing}
 
 pub same-lent : {B D T U E G F H : List ℕ} → B ≡ D → T ≡ U → E ≡ G → F ≡ H → lent B T E F ≡ lent D U G H
 same-lent b t e f = rw (b, t, e, f) refl
@@ -44,25 +43,25 @@ same-lent b t e f = rw (b, t, e, f) refl
 -- ---- by kind: what the board has of an order
 
 module _ (o : Order) where
-  pub on-plain : (o .kind ≡ 3 → ⊥) → onBoard o ≡ o
-  unfolding onBoard
+  pub on-plain : (o .kind ≡ 3 → ⊥) → boardOrder o ≡ o
+  unfolding boardOrder
   on-plain n = rw (ne-eqb (o .kind) 3 n) refl
 
-  pub on-over : o .kind ≡ 3 → onBoard o ≡ plain.addOrder (o .name) (heldFor (o .weight))
-  unfolding onBoard
+  pub on-over : o .kind ≡ 3 → boardOrder o ≡ plain.addOrder (o .name) (heldFor (o .weight))
+  unfolding boardOrder
   on-over e = rw e refl
 
-module _ (d : Drive) (s : State) (o : Order) where
+module _ (d : Drive) (s : BoardTables) (o : Order) where
   -- a remove
   module _ (e : o .kind ≡ 2) where
-    same : onBoard o ≡ o
+    same : boardOrder o ≡ o
     same = on-plain o (λ z. omega arith)
 
     pub remove-said : carried d s o ≡ calls.removed d (s .board) (o .name) .answer
     unfolding plain.carried
     remove-said = rw same (rw e refl)
 
-    remove-board : plain.carriedBoard d (s .board) (onBoard o) ≡ calls.removedBoard d (s .board) (o .name)
+    remove-board : plain.carriedBoard d (s .board) (boardOrder o) ≡ calls.removedBoard d (s .board) (o .name)
     unfolding plain.carriedBoard
     remove-board = rw same (rw e refl)
 
@@ -83,7 +82,7 @@ module _ (d : Drive) (s : State) (o : Order) where
     unfolding plain.carried
     over-said = rw (on-over o e) refl
 
-    over-board : plain.carriedBoard d (s .board) (onBoard o) ≡ calls.addedBoard d (s .board) (o .name) (heldFor (o .weight))
+    over-board : plain.carriedBoard d (s .board) (boardOrder o) ≡ calls.addedBoard d (s .board) (o .name) (heldFor (o .weight))
     unfolding plain.carriedBoard
     over-board = rw (on-over o e) refl
 
@@ -116,14 +115,9 @@ module _ (d : Drive) (s : State) (o : Order) where
 
 -- ---- lengths
 
-either-length : (k : Check) (D B : List ℕ) → length D ≡ length B → length (ifClear k D B) ≡ length B
-either-length Clear D B h = h
-either-length (Refused r) D B h = refl
-
 after-length : (d : Drive) (B : List ℕ) (x : ℕ) (T : List ℕ) → length (tableAfter d B x T) ≡ length T
 unfolding tableAfter
-after-length d B x T =
-    either-length (removeCheck d B x) (settledTable (d .capacity) B (tidying.removed (d .capacity) B x) T) T
+after-length d B x T = either-length (removeCheck d B x) (settledTable (d .capacity) B (tidying.removed (d .capacity) B x) T) T
     (settled-length (d .capacity) B (tidying.removed (d .capacity) B x) T)
 
 rates-length : (d : Drive) (B : List ℕ) (x r : ℕ) (T : List ℕ) → length (ratesAfter d B x r T) ≡ length T
@@ -132,7 +126,7 @@ rates-length d B x r T =
     either-length (addCheck d B x (heldFor r)) (ratedTable (d .capacity) (placed (d .capacity) B x (heldFor r)) T x r) T
     (rated-length (d .capacity) (placed (d .capacity) B x (heldFor r)) T x r)
 
-module _ (d : Drive) (s : State) (o : Order) where
+module _ (d : Drive) (s : BoardTables) (o : Order) where
   pub carried-rates-length : length (carriedRates d s o) ≡ length (s .rates)
   unfolding carriedRates
   carried-rates-length = by-bool (eqb (o .kind) 2)
@@ -147,7 +141,7 @@ module _ (d : Drive) (s : State) (o : Order) where
 
 -- ---- the tables go on fitting the board
 
-module _ (d : Drive) (s : State) (long : d .capacity ≤ length (s .rates)) (fit : fitting (d .capacity) s ≡ true) where
+module _ (d : Drive) (s : BoardTables) (long : d .capacity ≤ length (s .rates)) (fit : fitting (d .capacity) s ≡ true) where
   abbrev C : ℕ
   C = d .capacity
 
@@ -196,24 +190,17 @@ module _ (d : Drive) (s : State) (long : d .capacity ≤ length (s .rates)) (fit
   ]
 
 -- slot's own checks see no more of the board than its length
-slot-same : (d : Drive) (B D : List ℕ) → length D ≡ length B → slotCheck d B ≡ Clear → slotCheck d D ≡ Clear
-slot-same d B D e h =
-    let z = slot-sized d B h in
-    let is : Sized (d .capacity) D = record { some = z .some; few = z .few; long = omega (arith, z .long) } in
-    slot-parts d D
-    ∙ rw (open-sized (d .capacity) D is) (then-clear (openCheck (d .capacity) B) (positionCheck (d .capacity) (d .position)) (sym (slot-parts d B) ∙ h))
-
 -- What a record is ready for, it is ready for after any order, and after orders one after the other.
-pub carried-ready : (d : Drive) (s : State) (o : Order) → Ready d s → Ready d (carriedState d s o)
+pub carried-ready : (d : Drive) (s : BoardTables) (o : Order) → Ready d s → Ready d (carriedState d s o)
 carried-ready d s o is = record {
-  clear = slot-same d (s .board) (plain.carriedBoard d (s .board) (onBoard o)) (carried-length d (s .board) (onBoard o)) (is .clear);
+  clear = slot-long d (s .board) (plain.carriedBoard d (s .board) (boardOrder o)) (carried-length d (s .board) (boardOrder o)) (is .clear);
   rates = omega (arith, carried-rates-length d s o, is .rates);
   owed = omega (arith, carried-owed-length d s o (s .owed), is .owed);
   other = omega (arith, carried-owed-length d s o (s .other), is .other);
   fit = carried-fits d s (is .rates) (is .fit) o;
 }
 
-pub all-ready : (d : Drive) (s : State) (os : List Order) → Ready d s → Ready d (carriedAll (doing d) s os)
+pub all-ready : (d : Drive) (s : BoardTables) (os : List Order) → Ready d s → Ready d (carriedAll (doing d) s os)
 unfolding carriedAll
 all-ready d s [] is = is
 all-ready d s (o ∷ os) is = all-ready d (carriedState d s o) os (carried-ready d s o is)
@@ -228,8 +215,7 @@ module _ (d : Drive) (B : List ℕ) (x : ℕ) where
   -- weights that no board has room for
   huge-same : (w v : ℕ) → 4095 < w → 4095 < v → addCheck d B x w ≡ addCheck d B x v
   unfolding addCheck firstOf applies
-  huge-same w v p q =
-      by-bool (eqb (d .capacity) 0 || ltb 4095 (d .capacity))
+  huge-same w v p q = by-bool (eqb (d .capacity) 0 || ltb 4095 (d .capacity))
       (λ t. rw t refl)
       (λ f.
       let few = ltb-false 4095 (d .capacity) (later (eqb (d .capacity) 0) (ltb 4095 (d .capacity)) f) in

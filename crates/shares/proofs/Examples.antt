@@ -4,7 +4,7 @@ use mathlib.Core.Path.{_≡_, refl}
 use mathlib.Core.List.{List, [], _∷_}
 use Prim.Native.Nat.{ℕ, zero, suc}
 use lib.ListN.{getD, replicate, set}
-use Rattle.sequences.specs.Board.{digits, leafAt, nextFrom}
+use Rattle.sequences.specs.SlotOrder.{digits, leafAt, nextFrom}
 use Rattle.pieces.specs.Board.{uniform, whole, pieces, weight, nth, single, sound, sum}
 use Rattle.pieces.specs.Placing.{fill, first, fit, spot, put, place}
 use Rattle.pieces.specs.Tidying.{copy, move, twin, join, pair, step, tidy, clear}
@@ -22,9 +22,9 @@ use Rattle.orders.specs.Checks.{orderCheck}
 use Rattle.orders.specs.Results as plain
 use Rattle.orders.specs.Results.{removeOrder}
 use Rattle.drives.specs.Checks.{sizeCheck, placeCheck, pairCheck, bothStart}
-use Rattle.shares.specs.States.{State, lent}
+use Rattle.shares.specs.States.{BoardTables, lent}
 use Rattle.shares.specs.Checks.{tooFew, shareCheck, wayOf}
-use Rattle.shares.specs.Results.{overOrder, onBoard, tableAfter, ratesAfter, carriedRates, carriedOwed, ranState, ranList, changedAnswer, changedState, stateThen, listThen, served, servedAnswer, servedState, servedList}
+use Rattle.shares.specs.Results.{overOrder, boardOrder, tableAfter, ratesAfter, carriedRates, carriedOwed, ranState, ranList, changedAnswer, changedState, stateThen, listThen, served, servedAnswer, servedState, servedList}
 
 abbrev none : List ℕ
 none = replicate 259 0
@@ -33,15 +33,15 @@ abbrev zeros : List ℕ
 zeros = 0 ∷ 0 ∷ 0 ∷ 0 ∷ []
 
 -- C = 4, r = 3 on all four leaves, the own deficit being -v and the other drive's -2.
-abbrev three : ℕ → State
+abbrev three : ℕ → BoardTables
 three v = lent (9 ∷ 9 ∷ 9 ∷ 9 ∷ []) (3 ∷ 0 ∷ 0 ∷ 0 ∷ []) (v ∷ 0 ∷ 0 ∷ 0 ∷ []) (2 ∷ 0 ∷ 0 ∷ 0 ∷ [])
 
 -- The names that n slots of the record d go to, one after the other, and the state they leave; the other record is at position 3.
-slots : ℕ → Drive → State → List ℕ
+slots : ℕ → Drive → BoardTables → List ℕ
 slots zero d s = []
 slots (suc n) d s = let b = driveAt 4 3 in getD (servedAnswer d b s none .values) 0 0 ∷ slots n (served d b s none .drive) (servedState d b s none)
 
-after : ℕ → Drive → State → State
+after : ℕ → Drive → BoardTables → BoardTables
 after zero d s = s
 after (suc n) d s = let b = driveAt 4 3 in after n (served d b s none .drive) (servedState d b s none)
 
@@ -49,7 +49,7 @@ after (suc n) d s = let b = driveAt 4 3 in after n (served d b s none .drive) (s
 admitted :
     (changedState (driveAt 4 1) (driveAt 4 1) (lent zeros zeros zeros zeros) none (overOrder 9 3) ≡ lent (9 ∷ 9 ∷ 9 ∷ 9 ∷ []) (3 ∷ 0 ∷ 0 ∷ 0 ∷ []) zeros zeros)
     × (changedAnswer (driveAt 4 1) (driveAt 4 1) (lent zeros zeros zeros zeros) none (overOrder 9 3) ≡ record { number = 0; values = 0 ∷ [] })
-unfolding digits uniform whole pieces weight nth single sound sum fill first fit spot put place fits ratedTable heldFor applies addCheck least answersIn ordersIn orderCheck plain.carried plain.carriedAnswer plain.carriedBoard sizeCheck placeCheck pairCheck bothStart tooFew shareCheck wayOf onBoard ratesAfter carriedRates carriedOwed
+unfolding digits uniform whole pieces weight nth single sound sum fill first fit spot put place fits ratedTable heldFor applies addCheck least answersIn ordersIn orderCheck plain.carried plain.carriedAnswer plain.carriedBoard sizeCheck placeCheck pairCheck bothStart tooFew shareCheck wayOf boardOrder ratesAfter carriedRates carriedOwed
 admitted = (refl, refl)
 
 -- C = 6, r = 5: R = 8 finds no room, and 10 says the 6 idle leaves, which exceed r; r = 0 is 7; kind 4 is 7.
@@ -57,7 +57,7 @@ refused :
     (changedAnswer (driveAt 6 1) (driveAt 6 1) (lent (0 ∷ 0 ∷ zeros) (0 ∷ 0 ∷ zeros) (0 ∷ 0 ∷ zeros) (0 ∷ 0 ∷ zeros)) none (overOrder 9 5) ≡ record { number = 10; values = 6 ∷ [] })
     × (changedAnswer (driveAt 4 1) (driveAt 4 1) (lent zeros zeros zeros zeros) none (overOrder 9 0) ≡ record { number = 7; values = 0 ∷ [] })
     × (changedAnswer (driveAt 4 1) (driveAt 4 1) (lent zeros zeros zeros zeros) none (record { kind = 4; name = 9; weight = 1 }) ≡ record { number = 7; values = 0 ∷ [] })
-unfolding digits uniform whole pieces weight single sound sum fits heldFor applies addCheck least answersIn ordersIn orderCheck plain.carried plain.carriedAnswer sizeCheck placeCheck pairCheck bothStart tooFew shareCheck wayOf onBoard
+unfolding digits uniform whole pieces weight single sound sum fits heldFor applies addCheck least answersIn ordersIn orderCheck plain.carried plain.carriedAnswer sizeCheck placeCheck pairCheck bothStart tooFew shareCheck wayOf boardOrder
 refused = (refl, refl, refl)
 
 -- An over-allocated order waits like any other where the other record is within a round; r = 0 does not.
@@ -87,12 +87,12 @@ run-over :
     (servedAnswer (driveAt 4 1) (driveAt 4 1) (lent zeros zeros zeros zeros) (set (set (set (set (set none 2 1) 3 1) 4 3) 5 9) 6 3) ≡ record { number = 0; values = 9 ∷ 0 ∷ 0 ∷ 0 ∷ [] })
     × (servedState (driveAt 4 1) (driveAt 4 1) (lent zeros zeros zeros zeros) (set (set (set (set (set none 2 1) 3 1) 4 3) 5 9) 6 3) ≡ lent (9 ∷ 9 ∷ 9 ∷ 9 ∷ []) (3 ∷ 0 ∷ 0 ∷ 0 ∷ []) (1 ∷ 0 ∷ 0 ∷ 0 ∷ []) zeros)
     × (servedList (driveAt 4 1) (driveAt 4 1) (lent zeros zeros zeros zeros) (set (set (set (set (set none 2 1) 3 1) 4 3) 5 9) 6 3) ≡ set (set (set (set none 1 1) 3 1) 4 0) 6 3)
-unfolding digits leafAt nextFrom uniform whole pieces weight nth single sound sum fill first fit spot put place fits ratedTable heldFor turns.turnName turns.turnOwed turns.owedNext lowest applies addCheck least answersIn ordersIn orderAt ordersFrom waiting counted answeredAt answeredFrom settled carriedAll outcomes plain.carried plain.carriedBoard sizeCheck placeCheck pairCheck bothStart tooFew shareCheck onBoard ratesAfter carriedRates carriedOwed ranState ranList stateThen listThen
+unfolding digits leafAt nextFrom uniform whole pieces weight nth single sound sum fill first fit spot put place fits ratedTable heldFor turns.turnName turns.turnOwed turns.owedNext lowest applies addCheck least answersIn ordersIn orderAt ordersFrom waiting counted answeredAt answeredFrom settled carriedAll outcomes plain.carried plain.carriedBoard sizeCheck placeCheck pairCheck bothStart tooFew shareCheck boardOrder ratesAfter carriedRates carriedOwed ranState ranList stateThen listThen
 run-over = (refl, refl, refl)
 
 -- A remove moves the piece of another stream with its r: on 0 2 3 4, with r = 1 for 2 and 4, that of 3 moves 4 to leaf 0. Entries beyond C stay.
 moved :
     changedState (driveAt 4 1) (driveAt 4 1) (lent (0 ∷ 2 ∷ 3 ∷ 4 ∷ []) (0 ∷ 1 ∷ 0 ∷ 1 ∷ 7 ∷ []) zeros (0 ∷ 0 ∷ 0 ∷ 0 ∷ 8 ∷ [])) none (removeOrder 3)
     ≡ lent (4 ∷ 2 ∷ 0 ∷ 0 ∷ []) (1 ∷ 1 ∷ 0 ∷ 0 ∷ 7 ∷ []) zeros (0 ∷ 0 ∷ 0 ∷ 0 ∷ 8 ∷ [])
-unfolding digits uniform whole pieces weight nth single sound fill first copy move twin join pair step tidy clear fits settledTable heldFor applies removeCheck least answersIn ordersIn orderCheck plain.carriedBoard sizeCheck placeCheck pairCheck bothStart tooFew shareCheck wayOf onBoard tableAfter carriedRates carriedOwed
+unfolding digits uniform whole pieces weight nth single sound fill first copy move twin join pair step tidy clear fits settledTable heldFor applies removeCheck least answersIn ordersIn orderCheck plain.carriedBoard sizeCheck placeCheck pairCheck bothStart tooFew shareCheck wayOf boardOrder tableAfter carriedRates carriedOwed
 moved = refl

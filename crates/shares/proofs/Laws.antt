@@ -28,7 +28,7 @@ use Rattle.orders.specs.declared.Way.{Way}
 use Rattle.orders.specs.declared.Way.the-variants as way
 use Rattle.orders.specs.Answers.{orderingAnswer, listed}
 use Rattle.orders.specs.Results.{addOrder, removeOrder}
-use Rattle.shares.specs.States.{State, fitting}
+use Rattle.shares.specs.States.{BoardTables, fitting}
 use Rattle.shares.specs.Checks.{listCheck, wayOf, Ready}
 use Rattle.shares.specs.Results.{overOrder, changed, changedState, changedList, stateThen, turnState, served, servedState, servedList}
 use Rattle.shares.specs.Promises.{Orders, Serves}
@@ -37,9 +37,10 @@ use Rattle.shares.proofs.Doings as doings
 use Rattle.shares.proofs.Running as running
 use Rattle.shares.proofs.Turning as turning
 use Rattle.shares.proofs.Answering as answering
--- ---- the checks: once they find nothing both records pass those of slot, have one C, every table is long enough, and the tables fit the board
+-- ---- the checks: what they may answer; once they find nothing both records pass those of slot, have one C, every table is long enough, and the tables fit the board
 
-pub use Rattle.shares.proofs.Readying.{few-long, pair-lengths, pair-is, found-lengths, share-paired, share-long, share-ready, list-long, ready-good, ready-change, way-clear, now-ready}
+pub use Rattle.shares.proofs.Answering.{share-within, placed-within, change-still}
+pub use Rattle.shares.proofs.Readying.{few-long, placed-there, placed-look, share-paired, share-long, share-ready, list-long, ready-good, ready-change, way-clear, now-ready}
 -- ---- what an order of each kind does; every order leaves the lengths, and what a record is ready for
 
 pub use Rattle.shares.proofs.Doings.{same-lent, remove-said, remove-state, over-said, over-state, plain-said, plain-state, carried-rates-length, carried-owed-length, carried-fits, carried-ready, all-ready}
@@ -51,8 +52,8 @@ pub use Rattle.shares.proofs.Agreeing.{check-agrees, way-agrees, change
 
 -- ---- add, over-allocated add, remove
 
-module _ (a b : Drive) (s : State) (L : List ℕ) (o : Order) where
-  pub change-unique : {r q : Ordered} {t u : State} {F G : List ℕ} → Orders a b s L o r t F → Orders a b s L o q u G → (r ≡ q) × (t ≡ u) × (F ≡ G)
+module _ (a b : Drive) (s : BoardTables) (L : List ℕ) (o : Order) where
+  pub change-unique : {r q : Ordered} {t u : BoardTables} {F G : List ℕ} → Orders a b s L o r t F → Orders a b s L o q u G → (r ≡ q) × (t ≡ u) × (F ≡ G)
   change-unique p q = (unique (p .0) (q .0), unique (p .2) (q .2), unique (p .3) (q .3))
 
   -- A refusal of the first checks, or of an order that would wait, changes nothing,
@@ -66,10 +67,10 @@ module _ (a b : Drive) (s : State) (L : List ℕ) (o : Order) where
   waits-list e = (rw e refl, rw e refl, rw e refl)
 
   -- What is not done leaves the record, the board and every table; the list too, unless it answers 13.
-  pub change-refused : {r : Ordered} {t : State} {F : List ℕ} → Orders a b s L o r t F → Refuses (orderingAnswer (r .answer))
+  pub change-refused : {r : Ordered} {t : BoardTables} {F : List ℕ} → Orders a b s L o r t F → Refuses (orderingAnswer (r .answer))
       → (r .drive ≡ a) × (t ≡ s) × ((orderingAnswer (r .answer) .number ≡ 13 → ⊥) → F ≡ L)
   change-refused p h =
-      let q = answering.change-still (wayOf a b s L o) a s L o (refuses (p .1) h) in
+      let q = change-still (wayOf a b s L o) a s L o (refuses (p .1) h) in
       (ap (λ (r : Ordered). r .drive) (p .0), p .2 ∙ q .0, λ n. p .3 ∙ q .1 (λ e. n (ap (λ (x : Answer). x .number) (p .1) ∙ e)))
 
   -- Tables that fit go on fitting.
@@ -82,7 +83,7 @@ module _ (a b : Drive) (s : State) (L : List ℕ) (o : Order) where
       go way.Now e = rw e (doings.carried-fits a s long fit o)
 
 -- 4 is not among the numbers.
-module _ (a b : Drive) (s : State) (L : List ℕ) (x w : ℕ) {r : Ordered} {t : State} {F : List ℕ} where
+module _ (a b : Drive) (s : BoardTables) (L : List ℕ) (x w : ℕ) {r : Ordered} {t : BoardTables} {F : List ℕ} where
   pub add-may : Orders a b s L (addOrder x w) r t F → zeroOr (orderingAnswer (r .answer) .number) (1 ∷ 2 ∷ 3 ∷ 5 ∷ 6 ∷ 7 ∷ 14 ∷ 13 ∷ 8 ∷ 10 ∷ []) ≡ true
   add-may p = rw (p .1) (answering.add-answers a b s L x w)
 
@@ -94,21 +95,21 @@ module _ (a b : Drive) (s : State) (L : List ℕ) (x w : ℕ) {r : Ordered} {t :
 
 -- ---- slot
 
-turn-fit : (d : Drive) (s : State) → Ready d s → fitting (d .capacity) (turnState d s) ≡ true
+turn-fit : (d : Drive) (s : BoardTables) → Ready d s → fitting (d .capacity) (turnState d s) ≡ true
 turn-fit d s is =
     let x = getD (s .board) (servedLeaf d) 0 in
     turn-fits (d .capacity) (s .board) (s .rates) (s .owed) (s .other ∷ []) (lowest (d .capacity) (s .board) x)
     (lowest-held (s .board) x (d .capacity) (leaf-held (d .capacity) (s .board) x (servedLeaf d) (turning.leaf-within d s is) refl)) (is .fit)
 
-module _ (a b : Drive) (s : State) (L : List ℕ) where
-  pub slot-unique : {r q : Served} {t u : State} {F G : List ℕ} → Serves a b s L r t F → Serves a b s L q u G → (r ≡ q) × (t ≡ u) × (F ≡ G)
+module _ (a b : Drive) (s : BoardTables) (L : List ℕ) where
+  pub slot-unique : {r q : Served} {t u : BoardTables} {F G : List ℕ} → Serves a b s L r t F → Serves a b s L q u G → (r ≡ q) × (t ≡ u) × (F ≡ G)
   slot-unique p q = (unique (p .0) (q .0), unique (p .2) (q .2), unique (p .3) (q .3))
 
-  pub slot-refused : {r : Served} {t : State} {F : List ℕ} → Serves a b s L r t F → Refuses (servingAnswer (r .answer))
+  pub slot-refused : {r : Served} {t : BoardTables} {F : List ℕ} → Serves a b s L r t F → Refuses (servingAnswer (r .answer))
       → (r .drive ≡ a) × (servingAnswer (r .answer) .values ≡ 0 ∷ 0 ∷ 0 ∷ 0 ∷ []) × (t ≡ s) × (F ≡ L)
   slot-refused p h = rw (p .0, p .2, p .3, refusal (listCheck a b s (length L)) (refuses (p .1) h) .1) (refl, refl, refl, refl)
 
-  pub slot-may : {r : Served} {t : State} {F : List ℕ} → Serves a b s L r t F → zeroOr (servingAnswer (r .answer) .number) (1 ∷ 2 ∷ 3 ∷ 5 ∷ []) ≡ true
+  pub slot-may : {r : Served} {t : BoardTables} {F : List ℕ} → Serves a b s L r t F → zeroOr (servingAnswer (r .answer) .number) (1 ∷ 2 ∷ 3 ∷ 5 ∷ []) ≡ true
   slot-may p = rw (p .1) (answering.share-within a b s (tooShort (length L)))
 
   -- A slot that is refused for 5 runs nothing, whatever waits.

@@ -1,6 +1,5 @@
--- The checks of a call with tables: what the code finds part by part, and what is known once they find nothing.
--- Assumes nothing.
-use mathlib.Core.Path.{_≡_, refl, sym, ap, _∙_}
+-- The checks of a call with tables: what the code finds part by part, and what is known once they find nothing. Assumes nothing.
+use mathlib.Core.Path.{_≡_, refl, sym, ap, subst, _∙_}
 use mathlib.Core.Bool.{Bool, true, false, not, _||_}
 use mathlib.Core.List.{List, [], _∷_}
 use Prim.Native.Nat.{ℕ, max, _≤_}
@@ -13,7 +12,7 @@ use Rattle.pieces.specs.Board.{good}
 use Rattle.tables.proofs.Laws.{fits-parts}
 use Rattle.calls.specs.declared.Drive.{Drive}
 use Rattle.calls.specs.declared.Refusal.{Refusal}
-use Rattle.calls.specs.declared.Refusal.the-variants.{Damaged}
+use Rattle.calls.specs.declared.Refusal.the-variants.{Midround, Damaged}
 use Rattle.calls.specs.declared.Check.{Check}
 use Rattle.calls.specs.declared.Check.the-variants.{Clear, Refused}
 use Rattle.calls.specs.Refusals.{refuseIf, goodCheck, changeCheck}
@@ -26,15 +25,15 @@ use Rattle.orders.specs.declared.Way.the-variants as way
 use Rattle.orders.proofs.Laws.{way-wait}
 use Rattle.drives.specs.Checks.{pairCheck, bothStart}
 use Rattle.drives.proofs.Laws.{Paired, pair-clear, start-both, way-now}
-use Rattle.shares.specs.States.{State, fitting}
-use Rattle.shares.specs.Checks.{tooFew, shareCheck, listCheck, wayOf, Ready}
+use Rattle.shares.specs.States.{BoardTables, fitting}
+use Rattle.shares.specs.Checks.{tooFew, fitCheck, placedCheck, shareCheck, listCheck, wayOf, Ready}
 
 -- ---- no table is too short
 
 pub last-lacks : (t x y z : Bool) → t ≡ false → x ≡ false → y ≡ false → z ≡ (t || (x || (y || z)))
 last-lacks t x y z f g h = rw (f, g, h) refl
 
-pub few-long : (C : ℕ) (s : State) → tooFew C s ≡ false → (C ≤ length (s .rates)) × (C ≤ length (s .owed)) × (C ≤ length (s .other))
+pub few-long : (C : ℕ) (s : BoardTables) → tooFew C s ≡ false → (C ≤ length (s .rates)) × (C ≤ length (s .owed)) × (C ≤ length (s .other))
 unfolding tooFew
 few-long C s e =
     let f = neither (ltb (length (s .rates)) C) (ltb (length (s .owed)) C || ltb (length (s .other)) C) e in
@@ -43,7 +42,7 @@ few-long C s e =
 
 -- ---- 1 to 3: t says that something else is too short
 
-module _ (a b : Drive) (s : State) (t : Bool) where
+module _ (a b : Drive) (s : BoardTables) (t : Bool) where
   abbrev short : Bool
   short = t || tooFew (max (a .capacity) (b .capacity)) s
 
@@ -63,28 +62,41 @@ module _ (a b : Drive) (s : State) (t : Bool) where
     unfolding tooFew
     lacking = lacks ∙ rw larger refl
 
-    pub pair-is : k ≡ pairCheck a b (s .board) (t || tooFew (max (a .capacity) (b .capacity)) s)
+    pair-is : k ≡ pairCheck a b (s .board) (t || tooFew (max (a .capacity) (b .capacity)) s)
     pair-is = is ∙ ap (λ (x : Bool). pairCheck a b (s .board) x) lacking
 
     pub found-lengths : k ≡ Clear
         → (a .capacity ≤ length (s .board)) × (a .capacity ≤ length (s .rates)) × (a .capacity ≤ length (s .owed)) × (a .capacity ≤ length (s .other)) × (a .capacity ≤ 4095)
     found-lengths e = pair-lengths (sym pair-is ∙ e)
 
-    pub found-refused : (r : Refusal) → k ≡ Refused r → Refused r ≡ shareCheck a b s t
-    unfolding shareCheck
-    found-refused r e = rw (← pair-is, e) refl
+    pub found-refused : (there : Bool) (r : Refusal) → k ≡ Refused r → Refused r ≡ placedCheck there a b s t
+    unfolding placedCheck
+    found-refused there r e = rw (← pair-is, e) refl
 
-    pub found-fit : k ≡ Clear → fitting (a .capacity) s ≡ true → Clear ≡ shareCheck a b s t
-    unfolding shareCheck
-    found-fit e f = rw (← pair-is, e, f) refl
+    pub found-away : (there : Bool) → k ≡ Clear → there ≡ false → Refused Midround ≡ placedCheck there a b s t
+    unfolding placedCheck
+    found-away there e f = rw (← pair-is, e, f) refl
 
-    pub found-damaged : k ≡ Clear → fitting (a .capacity) s ≡ false → Refused Damaged ≡ shareCheck a b s t
-    unfolding shareCheck
-    found-damaged e f = rw (← pair-is, e, f) refl
+    pub found-next : (there : Bool) (j : Check) → k ≡ Clear → there ≡ true → j ≡ fitCheck (a .capacity) s → j ≡ placedCheck there a b s t
+    unfolding placedCheck
+    found-next there j e f h = rw (← pair-is, e, f) h
 
 -- ---- what is known once nothing is found
 
-module _ (a b : Drive) (s : State) (t : Bool) (e : shareCheck a b s t ≡ Clear) where
+module _ (there : Bool) (a b : Drive) (s : BoardTables) (t : Bool) (e : placedCheck there a b s t ≡ Clear) where
+  -- The drives are where the call is made, and one that is made anywhere finds nothing either.
+  pub placed-there : there ≡ true
+  unfolding placedCheck
+  placed-there =
+      let rest = refuseIf (not there) Midround (fitCheck (a .capacity) s) in
+      let k = then-clear (pairCheck a b (s .board) (t || tooFew (max (a .capacity) (b .capacity)) s)) rest e in
+      not-false there (refuse-clear (not there) Midround (fitCheck (a .capacity) s) k .0)
+
+  pub placed-look : shareCheck a b s t ≡ Clear
+  unfolding shareCheck
+  placed-look = subst (λ (x : Bool). placedCheck x a b s t ≡ Clear) placed-there e
+
+module _ (a b : Drive) (s : BoardTables) (t : Bool) (e : shareCheck a b s t ≡ Clear) where
   share-pair : pairCheck a b (s .board) (t || tooFew (max (a .capacity) (b .capacity)) s) ≡ Clear
   unfolding shareCheck
   share-pair = first-clear (pairCheck a b (s .board) (t || tooFew (max (a .capacity) (b .capacity)) s)) (refuseIf (not (fitting (a .capacity) s)) Damaged Clear) e
@@ -108,20 +120,20 @@ module _ (a b : Drive) (s : State) (t : Bool) (e : shareCheck a b s t ≡ Clear)
       let l = pair-lengths a b s t share-pair in
       record { clear = share-paired .own; rates = l .1; owed = l .2; other = l .3; fit = share-fit }
 
-pub list-long : (a b : Drive) (s : State) (n : ℕ) → listCheck a b s n ≡ Clear → 259 ≤ n
+pub list-long : (a b : Drive) (s : BoardTables) (n : ℕ) → listCheck a b s n ≡ Clear → 259 ≤ n
 list-long a b s n e = ltb-false n 259 (share-long a b s (tooShort n) e)
 
 -- A record that is ready and at the start of a round passes the checks 1 to 5 of a change.
-pub ready-good : (d : Drive) (s : State) → Ready d s → good (d .capacity) (s .board) ≡ true
+pub ready-good : (d : Drive) (s : BoardTables) → Ready d s → good (d .capacity) (s .board) ≡ true
 ready-good d s is = fits-parts (d .capacity) (s .board) (s .rates) (s .owed ∷ s .other ∷ []) (is .fit) .0
 
-pub ready-change : (d : Drive) (s : State) → Ready d s → d .position ≡ 1 → Clear ≡ changeCheck d (s .board)
+pub ready-change : (d : Drive) (s : BoardTables) → Ready d s → d .position ≡ 1 → Clear ≡ changeCheck d (s .board)
 unfolding goodCheck
 ready-change d s is at = sym (change-parts d (s .board) ∙ rw (is .clear, eq-eqb (d .position) 1 at, ready-good d s is) refl)
 
 -- ---- how a change is taken: the board was looked at by the first checks
 
-pub way-words : (a b : Drive) (s : State) (L : List ℕ) (o : Order) → wayBy (listCheck a b s (length L)) (waitsIf (bothStart a b) L) (wordsCheck o) ≡ wayOf a b s L o
+pub way-words : (a b : Drive) (s : BoardTables) (L : List ℕ) (o : Order) → wayBy (listCheck a b s (length L)) (waitsIf (bothStart a b) L) (wordsCheck o) ≡ wayOf a b s L o
 unfolding wayOf orderCheck
 way-words a b s L o = go (listCheck a b s (length L)) refl
   where
@@ -130,7 +142,7 @@ way-words a b s L o = go (listCheck a b s (length L)) refl
     go Clear e = rw (ready-good a s (share-ready a b s (tooShort (length L)) e)) refl
     go (Refused r) e = rw e refl
 
-module _ (a b : Drive) (s : State) (L : List ℕ) (o : Order) where
+module _ (a b : Drive) (s : BoardTables) (L : List ℕ) (o : Order) where
   -- what the code finds
   pub way-found : (k : Check) (begins : Bool) (w : Way) → k ≡ listCheck a b s (length L) → begins ≡ bothStart a b
       → w ≡ wayBy k (waitsIf begins L) (wordsCheck o) → w ≡ wayOf a b s L o

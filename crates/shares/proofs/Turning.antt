@@ -1,5 +1,4 @@
--- The turn of a slot: what the code relies on, and what it finds.
--- Assumes nothing.
+-- The turn of a slot: what the code relies on, and what it finds. Assumes nothing.
 use mathlib.Core.Path.{_≡_, refl, sym, ap, subst, _∙_}
 use mathlib.Core.Bool.{Bool}
 use mathlib.Core.List.{List, [], _∷_}
@@ -20,14 +19,14 @@ use Rattle.calls.specs.Results.{servedLeaf, servedPassed, servedRound, servedNa
 use Rattle.calls.proofs.Laws.{slot-sized, slot-position}
 use Rattle.waiting.specs.Layout.{tooShort}
 use Rattle.drives.specs.Checks.{bothStart}
-use Rattle.shares.specs.States.{State}
+use Rattle.shares.specs.States.{BoardTables}
 use Rattle.shares.specs.Checks.{listCheck, Ready}
 use Rattle.shares.specs.Results.{stateIf, listIf, stateThen, listThen, turnState, servedBy, servedAnswerBy}
 use Rattle.shares.specs.Promises.{Serves}
 use Rattle.shares.proofs.Readying.{share-ready}
 use Rattle.shares.proofs.Running.{if-ready}
 
-module _ (d : Drive) (s : State) (is : Ready d s) where
+module _ (d : Drive) (s : BoardTables) (is : Ready d s) where
   pub leaf-within : servedLeaf d < d .capacity
   leaf-within = leaf-below (d .capacity) (d .position) (slot-position d (s .board) (is .clear))
 
@@ -64,19 +63,19 @@ module _ (d : Drive) (s : State) (is : Ready d s) where
 
 -- ---- slot: t and M are the state and the list once the list is run, where a round begins
 
-module _ (a b : Drive) (s : State) (L : List ℕ) (e : listCheck a b s (length L) ≡ Clear) (begins : Bool) (t : State) (ran : t ≡ stateIf begins a s L) where
+module _ (a b : Drive) (s : BoardTables) (L : List ℕ) (e : listCheck a b s (length L) ≡ Clear) (begins : Bool) (t : BoardTables) (ran : t ≡ stateIf begins a s L) where
   pub slot-ready : Ready a t
-  slot-ready = subst (λ (u : State). Ready a u) (sym ran) (if-ready begins a s L (share-ready a b s (tooShort (length L)) e))
+  slot-ready = subst (λ (u : BoardTables). Ready a u) (sym ran) (if-ready begins a s L (share-ready a b s (tooShort (length L)) e))
 
-  pub slot-done : begins ≡ bothStart a b → (M : List ℕ) → M ≡ listIf begins a s L → (r : Served) (u : State) → r ≡ servedBy Clear a t → u ≡ turnState a t
+  pub slot-done : begins ≡ bothStart a b → (M : List ℕ) → M ≡ listIf begins a s L → (r : Served) (u : BoardTables) → r ≡ servedBy Clear a t → u ≡ turnState a t
       → Serves a b s L r u M
   unfolding stateThen listThen
   slot-done f M kept r u served turned =
       let z : t ≡ stateIf (bothStart a b) a s L = ran ∙ ap (λ (x : Bool). stateIf x a s L) f in
       let m : M ≡ listIf (bothStart a b) a s L = kept ∙ ap (λ (x : Bool). listIf x a s L) f in
       rw e (
-        served ∙ ap (λ (v : State). servedBy Clear a v) z,
-        ap (λ (q : Served). servingAnswer (q .answer)) served ∙ ap (λ (v : State). servedAnswerBy Clear a v) z,
-        turned ∙ ap (λ (v : State). turnState a v) z,
+        served ∙ ap (λ (v : BoardTables). servedBy Clear a v) z,
+        ap (λ (q : Served). servingAnswer (q .answer)) served ∙ ap (λ (v : BoardTables). servedAnswerBy Clear a v) z,
+        turned ∙ ap (λ (v : BoardTables). turnState a v) z,
         m,
       )

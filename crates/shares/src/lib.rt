@@ -42,7 +42,45 @@ pub fn lacks(short: bool, c: usize, rates: &[u16], owed: &[u16], owed_other: &[u
     owed_other.len() < c
 }
 
-// The refusals 1, 2, 3 and 5. `short` says that something else that is lent is too short.
+// The refusal 5, of the whole board and every table.
+fn check_fit(board: &[u16], c: usize, rates: &[u16], owed: &[u16], owed_other: &[u16]) -> Check
+    requires { ⌜ (c ≤ length (now board)) × (c ≤ length (now rates)) × (c ≤ length (now owed)) × (c ≤ length (now «owed_other»)) × (c ≤ 4095) ⌝ }
+    ensures { λ r. ⌜ r ≡ checks.fitCheck c (lent (now (board .entry)) (now (rates .entry)) (now (owed .entry)) (now («owed_other» .entry))) ⌝ }
+{
+    if tables::fitting::fits(board, c, rates, owed, owed_other) {
+        Check::Clear
+    } else {
+        Check::Refused(Refusal::Damaged)
+    }
+}
+
+// The refusals 1 to 5. `there` says that the drives are where the call is made, `short` that something else that is lent is too short.
+pub fn check_placed(
+    there: bool,
+    own: Drive,
+    other: Drive,
+    board: &[u16],
+    rates: &[u16],
+    owed: &[u16],
+    owed_other: &[u16],
+    short: bool,
+) -> Check
+    ensures { λ r. ⌜ r ≡ checks.placedCheck there own other (lent (now (board .entry)) (now (rates .entry)) (now (owed .entry)) (now («owed_other» .entry))) short ⌝ }
+{
+    let c = drives::larger(own.capacity as usize, other.capacity as usize);
+    match drives::check_pair(own, other, board, lacks(short, c, rates, owed, owed_other)) {
+        Check::Refused(r) => Check::Refused(r),
+        Check::Clear => {
+            if there {
+                check_fit(board, own.capacity as usize, rates, owed, owed_other)
+            } else {
+                Check::Refused(Refusal::Midround)
+            }
+        }
+    }
+}
+
+// The refusals 1, 2, 3 and 5, wherever the drives are.
 pub fn check_shares(
     own: Drive,
     other: Drive,
@@ -54,17 +92,7 @@ pub fn check_shares(
 ) -> Check
     ensures { λ r. ⌜ r ≡ checks.shareCheck own other (lent (now (board .entry)) (now (rates .entry)) (now (owed .entry)) (now («owed_other» .entry))) short ⌝ }
 {
-    let c = drives::larger(own.capacity as usize, other.capacity as usize);
-    match drives::check_pair(own, other, board, lacks(short, c, rates, owed, owed_other)) {
-        Check::Refused(r) => Check::Refused(r),
-        Check::Clear => {
-            if tables::fitting::fits(board, own.capacity as usize, rates, owed, owed_other) {
-                Check::Clear
-            } else {
-                Check::Refused(Refusal::Damaged)
-            }
-        }
-    }
+    check_placed(true, own, other, board, rates, owed, owed_other, short)
 }
 
 // How a change is taken, by what the first checks found and whether a round begins. The board was looked at in these checks.

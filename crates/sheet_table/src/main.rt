@@ -1,40 +1,33 @@
 // The operators' reader: a sheet of pieces on standard input, as a table of its streams, pieces and starts, by start. It goes by the proved reader: of a sheet
 // that this refuses nothing is shown but the number.
 ghost use Prim.Native.Nat.{_≤_};
+use calls::Check;
 use calls::Drive;
-use calls::Refusal;
 use libc::STDIN_FILENO;
-use libc::STDOUT_FILENO;
-use sheets::Loading;
-
-fn show(n: usize) {
-    io::print_decimal(STDOUT_FILENO, n as u64);
-}
-
-fn show_text(text: &[u8]) {
-    io::write_all(STDOUT_FILENO, text);
-}
+use telling::end_line;
+use telling::say;
+use telling::say_after;
 
 // Spaces before a number of at most five digits, so that columns of seven stand under one another.
 fn indent(n: usize) {
-    show_text(b"  ");
+    say(b"  ");
     if n < 10000 {
-        show_text(b" ");
+        say(b" ");
     }
     if n < 1000 {
-        show_text(b" ");
+        say(b" ");
     }
     if n < 100 {
-        show_text(b" ");
+        say(b" ");
     }
     if n < 10 {
-        show_text(b" ");
+        say(b" ");
     }
 }
 
 fn show_column(n: usize) {
     indent(n);
-    show(n);
+    say_after(b"", n as u64);
 }
 
 // A piece: its stream, its start and how many leaves it has.
@@ -43,7 +36,7 @@ fn show_row(name: u16, start: u16, exponent: u16) {
         show_column(name as usize);
         show_column(start as usize);
         show_column(pieces::size_of(exponent as usize));
-        show_text(b"\n");
+        end_line();
     }
 }
 
@@ -72,11 +65,9 @@ fn show_board(drive: Drive, board: &[u16; 4095]) {
     if c <= 4095 {
         let mut list = blank_list();
         let n = pieces::listing::list_pieces(board, c, &mut list);
-        show_text(b"capacity ");
-        show(c);
-        show_text(b", position ");
-        show(drive.position as usize);
-        show_text(b"\n stream  start leaves\n");
+        say_after(b"capacity ", c as u64);
+        say_after(b", position ", drive.position as u64);
+        say(b"\n stream  start leaves\n");
         show_rows(&list, n);
     }
 }
@@ -86,11 +77,10 @@ fn show_sheet(sheet: &[u8]) {
     let loaded = sheets::read_pieces(sheet, &mut board);
     let answer = loaded.answer;
     match answer {
-        Loading::Done => show_board(loaded.drive, &board),
-        Loading::Refused(r) => {
-            show_text(b"refused ");
-            show(r.number() as usize);
-            show_text(b"\n");
+        Check::Clear => show_board(loaded.drive, &board),
+        Check::Refused(r) => {
+            say_after(b"refused ", r.number() as u64);
+            end_line();
         }
     }
 }

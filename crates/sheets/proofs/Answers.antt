@@ -14,12 +14,13 @@ use Rattle.calls.specs.declared.Refusal.{Refusal}
 use Rattle.calls.specs.declared.Refusal.the-variants.{Capacity, Short, Damaged, Output, Block}
 use Rattle.calls.specs.declared.Check.{Check}
 use Rattle.calls.specs.declared.Check.the-variants.{Clear}
+use Rattle.calls.specs.declared.Checked.{Checked}
+use Rattle.calls.specs.Answers.{checkAnswer}
 use Rattle.calls.proofs.Laws.{Refuses, refuses, refusal, may, first-among, Within, within-among, first-within, then-within, if-within, covers, part-within}
 use Rattle.sheets.specs.declared.Saved.{Saved}
 use Rattle.sheets.specs.declared.Saving.{Saving}
-use Rattle.sheets.specs.declared.Loaded.{Loaded}
 use Rattle.sheets.specs.Sheet.{capacityIn}
-use Rattle.sheets.specs.Forms.{Form, sizeOf, roomCheck, savingCheck, savedAnswerAs, savingAnswer, readMay, askedSheet, blockCheck, startCheck, heldCheck, readingCheck, loadedAnswerAs, loadingAnswer}
+use Rattle.sheets.specs.Forms.{Form, sizeOf, roomCheck, savingCheck, savedAnswerAs, savingAnswer, readMay, askedSheet, blockCheck, headCheck, sheetCheck, readingCheck, loadedAnswerAs}
 use Rattle.sheets.specs.Promises.{SavesAs, LoadsAs}
 use Rattle.sheets.specs.Conversions.{spare, sizeFrom, convertCheck, Converts, toPiecesMay}
 
@@ -44,30 +45,29 @@ part all rs a c = part-within (numbers all) (numbers rs) (firstOf rs a) c (first
 
 -- what a sheet holds is refused with 12 or 5
 pub held-within : (F : Form) (all : List Refusal) (C : ℕ) (s : List ℕ) → covers (numbers all) (numbers (Block ∷ [])) ≡ true → covers (numbers all) (numbers (Damaged ∷ [])) ≡ true
-    → Within (numbers all) (heldCheck F C s)
+    → Within (numbers all) (sheetCheck F C s)
 unfolding blockCheck goodCheck
-held-within F all C s b g =
-    then-within (numbers all) (blockCheck (not (F .laid C s))) (goodCheck C (F .leaves C s))
+held-within F all C s b g = then-within (numbers all) (blockCheck (not (F .laid C s))) (goodCheck C (F .leaves C s))
     (part all (Block ∷ []) (askedSheet (not (F .laid C s))) b) (part all (Damaged ∷ []) (asked (driveAt C 1) (F .leaves C s)) g)
 
 module _ (F : Form) (s B : List ℕ) where
-  pub loads-unique : {r q : Loaded} {E G : List ℕ} → LoadsAs F s B r E → LoadsAs F s B q G → (r ≡ q) × (E ≡ G)
+  pub loads-unique : {r q : Checked} {E G : List ℕ} → LoadsAs F s B r E → LoadsAs F s B q G → (r ≡ q) × (E ≡ G)
   loads-unique h k = (unique (h .0) (k .0), unique (h .2) (k .2))
 
-  pub loads-refused : {r : Loaded} {E : List ℕ} → LoadsAs F s B r E → Refuses (loadingAnswer (r .answer)) → (r .drive ≡ driveAt 0 0) × (E ≡ B)
+  pub loads-refused : {r : Checked} {E : List ℕ} → LoadsAs F s B r E → Refuses (checkAnswer (r .answer)) → (r .drive ≡ driveAt 0 0) × (E ≡ B)
   loads-refused h f = rw (h .0, h .2, refusal (readingCheck F s B) (refuses (h .1) f) .1) (refl, refl)
 
   pub loads-answers : among (loadedAnswerAs F s B .number) readMay ≡ true
-  unfolding readingCheck startCheck blockCheck openCheck covers
+  unfolding readingCheck headCheck blockCheck openCheck covers
   loads-answers =
       let C = capacityIn s in
       let ns = numbers readMay in
       within-among readMay (readingCheck F s B)
-      (then-within ns (startCheck s B) (heldCheck F C s)
+      (then-within ns (headCheck s B) (sheetCheck F C s)
       (then-within ns (blockCheck (ltb (length s) 512)) (openCheck C B) (part readMay (Block ∷ []) (askedSheet (ltb (length s) 512)) refl) (part readMay openMay (askedOpen C B) refl))
       (held-within F readMay C s refl refl))
 
-  pub loads-may : {r : Loaded} {E : List ℕ} → LoadsAs F s B r E → among (loadingAnswer (r .answer) .number) readMay ≡ true
+  pub loads-may : {r : Checked} {E : List ℕ} → LoadsAs F s B r E → among (checkAnswer (r .answer) .number) readMay ≡ true
   loads-may h = may readMay (h .1) loads-answers
 
 -- A board of 4,095 entries is never too short.
@@ -93,11 +93,11 @@ module _ (F G : Form) (at : ℕ → Check) (s O : List ℕ) where
 
   -- read's own part keeps to the list without 2
   conversion-reads : Within (numbers toPiecesMay) (readingCheck F s spare)
-  unfolding readingCheck startCheck blockCheck covers zeroOr
+  unfolding readingCheck headCheck blockCheck covers zeroOr
   conversion-reads =
       let C = capacityIn s in
       let ns = numbers toPiecesMay in
-      then-within ns (startCheck s spare) (heldCheck F C s)
+      then-within ns (headCheck s spare) (sheetCheck F C s)
       (then-within ns (blockCheck (ltb (length s) 512)) (openCheck C spare) (part toPiecesMay (Block ∷ []) (askedSheet (ltb (length s) 512)) refl)
       (rw (lent-long C spare spare-long) (if-within ns (eqb C 0 || ltb 4095 C) Capacity Clear refl refl)))
       (held-within F toPiecesMay C s refl refl)

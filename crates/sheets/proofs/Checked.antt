@@ -4,23 +4,22 @@ use mathlib.Core.Bool.{Bool, true, false, not}
 use mathlib.Core.List.{List, [], _∷_, _++_}
 use Prim.Native.Nat.{ℕ, _*_, _≤_, _<_}
 use native.Mathlib.Omega.{arith}
-use lib.Dec.{eqb, ltb}
+use lib.Dec.{ltb}
 use lib.ListN.{length, drop}
-use borrow.Author.Tests.{lt-ltb, le-ltb, ltb-false, eqb-true, not-false}
+use borrow.Author.Tests.{lt-ltb, le-ltb, ltb-false, not-false}
 use Rattle.pieces.specs.Board.{good}
-use Rattle.calls.specs.Records.{driveAt}
-use Rattle.calls.specs.Refusals.{applies, refuseIf, askedOutput, slotMay, openCheck, slotCheck, goodCheck, andThen}
+use Rattle.calls.specs.Refusals.{applies, refuseIf, askedOutput, slotMay, changeMay, openCheck, slotCheck, goodCheck, changeCheck, andThen}
 use Rattle.calls.specs.Answers.{answered}
 use Rattle.calls.specs.Results.{ifClear}
 use Rattle.calls.specs.declared.Drive.{Drive}
 use Rattle.calls.specs.declared.Refusal.{Refusal}
-use Rattle.calls.specs.declared.Refusal.the-variants.{Capacity, Short, Position, Midround, Damaged, Output, Block}
+use Rattle.calls.specs.declared.Refusal.the-variants.{Capacity, Short, Position, Damaged, Output, Block}
 use Rattle.calls.specs.declared.Check.{Check}
 use Rattle.calls.specs.declared.Check.the-variants.{Clear, Refused}
-use Rattle.calls.proofs.Laws.{first-next, first-clear, then-clear, Passed, passed}
+use Rattle.calls.proofs.Laws.{first-next, first-clear, then-clear, refuse-clear, Passed, passed}
 use Rattle.sheets.specs.Sheet.{blocks, capacityIn}
-use Rattle.sheets.specs.Forms.{Form, savingBy, savingAnswer, sizeOf, roomCheck, savingCheck, blockCheck, startCheck, heldCheck, readingCheck, loadedBoardAs}
-use Rattle.sheets.specs.Results.{saveMay, saveCheck, writtenCheck, pieceForm, savePiecesMay}
+use Rattle.sheets.specs.Forms.{Form, savingBy, savingAnswer, sizeOf, roomCheck, savingCheck, blockCheck, headCheck, sheetCheck, readingCheck, loadedBoardAs}
+use Rattle.sheets.specs.Results.{saveCheck, pieceForm, savePiecesMay}
 
 pub block-clear : (b : Bool) → blockCheck b ≡ Clear → b ≡ false
 unfolding blockCheck
@@ -58,39 +57,26 @@ module _ (C : ℕ) (B : List ℕ) where
       sound true e = refl
       sound false e = let z : _≡_ {A = ℕ} 0 1 = cc in absurd (omega arith)
 
--- save, one part after the other
-module _ (C : ℕ) (B : List ℕ) (n : ℕ) where
-  pub written-parts : writtenCheck C B n ≡ andThen (goodCheck C B) (refuseIf (ltb n (512 * blocks C)) Output Clear)
-  unfolding writtenCheck goodCheck
-  written-parts = first-next (Damaged ∷ []) (Output ∷ []) (askedOutput (driveAt C 1) B n (512 * blocks C))
-
+-- save is what every change asks, and then room
 module _ (d : Drive) (B : List ℕ) (n : ℕ) where
-  pub save-parts : saveCheck d B n ≡ andThen (slotCheck d B) (refuseIf (not (eqb (d .position) 1)) Midround (writtenCheck (d .capacity) B n))
-  unfolding savingCheck slotCheck writtenCheck
-  save-parts = first-next slotMay (Midround ∷ Damaged ∷ Output ∷ []) (askedOutput d B n (512 * blocks (d .capacity)))
+  pub save-parts : saveCheck d B n ≡ andThen (changeCheck d B) (roomCheck n (512 * blocks (d .capacity)))
+  unfolding savingCheck changeCheck
+  save-parts = first-next changeMay (Output ∷ []) (askedOutput d B n (512 * blocks (d .capacity)))
 
   -- what is known once save's checks find nothing
-  pub save-slot : saveCheck d B n ≡ Clear → slotCheck d B ≡ Clear
-  save-slot e = first-clear (slotCheck d B) _ (sym save-parts ∙ e)
-
-  pub save-good : saveCheck d B n ≡ Clear → good (d .capacity) B ≡ true
-  unfolding savingCheck Passed applies
-  save-good e = not-false (good (d .capacity) B) (passed saveMay (askedOutput d B n (512 * blocks (d .capacity))) e .1 .1 .1 .1 .0)
+  pub save-change : saveCheck d B n ≡ Clear → changeCheck d B ≡ Clear
+  save-change e = first-clear (changeCheck d B) (roomCheck n (512 * blocks (d .capacity))) (sym save-parts ∙ e)
 
   pub save-room : saveCheck d B n ≡ Clear → 512 * blocks (d .capacity) ≤ n
-  unfolding savingCheck Passed applies
-  save-room e = ltb-false n (512 * blocks (d .capacity)) (passed saveMay (askedOutput d B n (512 * blocks (d .capacity))) e .1 .1 .1 .1 .1 .0)
-
-  pub save-start : saveCheck d B n ≡ Clear → d .position ≡ 1
-  unfolding savingCheck Passed applies
-  save-start e = eqb-true (d .position) 1 (not-false (eqb (d .position) 1) (passed saveMay (askedOutput d B n (512 * blocks (d .capacity))) e .1 .1 .1 .0))
+  save-room e =
+      let room = then-clear (changeCheck d B) (roomCheck n (512 * blocks (d .capacity))) (sym save-parts ∙ e) in
+      ltb-false n (512 * blocks (d .capacity)) (refuse-clear (ltb n (512 * blocks (d .capacity))) Output Clear room .0)
 
 -- save of the piece form, one part after the other
 module _ (d : Drive) (B : List ℕ) (n : ℕ) where
   pub entry-parts : savingCheck pieceForm d B n ≡ andThen (andThen (slotCheck d B) (goodCheck (d .capacity) B)) (roomCheck n (sizeOf pieceForm d B))
   unfolding savingCheck slotCheck goodCheck
-  entry-parts =
-      first-next (Capacity ∷ Short ∷ Position ∷ Damaged ∷ []) (Output ∷ []) (askedOutput d B n (sizeOf pieceForm d B))
+  entry-parts = first-next (Capacity ∷ Short ∷ Position ∷ Damaged ∷ []) (Output ∷ []) (askedOutput d B n (sizeOf pieceForm d B))
       ∙ ap (λ (k : Check). andThen k (roomCheck n (sizeOf pieceForm d B)))
       (first-next slotMay (Damaged ∷ []) (askedOutput d B n (sizeOf pieceForm d B)))
 
@@ -113,22 +99,22 @@ pub record Readable (F : Form) (s B : List ℕ) : Type 0 where
   pub good : goodCheck (capacityIn s) (F .leaves (capacityIn s) s) ≡ Clear
 
 module _ (s B : List ℕ) where
-  pub start-long : startCheck s B ≡ Clear → 512 ≤ length s
-  unfolding startCheck
-  start-long e = ltb-false (length s) 512 (block-clear (ltb (length s) 512) (first-clear (blockCheck (ltb (length s) 512)) (openCheck (capacityIn s) B) e))
+  pub head-long : headCheck s B ≡ Clear → 512 ≤ length s
+  unfolding headCheck
+  head-long e = ltb-false (length s) 512 (block-clear (ltb (length s) 512) (first-clear (blockCheck (ltb (length s) 512)) (openCheck (capacityIn s) B) e))
 
-  pub start-open : startCheck s B ≡ Clear → openCheck (capacityIn s) B ≡ Clear
-  unfolding startCheck
-  start-open e = then-clear (blockCheck (ltb (length s) 512)) (openCheck (capacityIn s) B) e
+  pub head-open : headCheck s B ≡ Clear → openCheck (capacityIn s) B ≡ Clear
+  unfolding headCheck
+  head-open e = then-clear (blockCheck (ltb (length s) 512)) (openCheck (capacityIn s) B) e
 
   -- the first checks, one after the other
-  pub start-short : length s < 512 → Refused Block ≡ startCheck s B
-  unfolding startCheck
-  start-short h = rw (lt-ltb (length s) 512 h, refused-block)
+  pub head-short : length s < 512 → Refused Block ≡ headCheck s B
+  unfolding headCheck
+  head-short h = rw (lt-ltb (length s) 512 h, refused-block)
 
-  pub start-next : 512 ≤ length s → startCheck s B ≡ openCheck (capacityIn s) B
-  unfolding startCheck
-  start-next h = rw (le-ltb (length s) 512 h, clear-block)
+  pub head-next : 512 ≤ length s → headCheck s B ≡ openCheck (capacityIn s) B
+  unfolding headCheck
+  head-next h = rw (le-ltb (length s) 512 h, clear-block)
 
 module _ (F : Form) (s B : List ℕ) where
   pub clear-read : readingCheck F s B ≡ Clear → Readable F s B
@@ -137,38 +123,38 @@ module _ (F : Form) (s B : List ℕ) where
       let C = capacityIn s in
       let last = goodCheck C (F .leaves C s) in
       let later = andThen (blockCheck (not (F .laid C s))) last in
-      let start = first-clear (startCheck s B) later e in
-      let rest = then-clear (startCheck s B) later e in
+      let head = first-clear (headCheck s B) later e in
+      let rest = then-clear (headCheck s B) later e in
       record {
-        long = start-long s B start;
-        fitting = start-open s B start;
+        long = head-long s B head;
+        fitting = head-open s B head;
         keeps = not-false (F .laid C s) (block-clear (not (F .laid C s)) (first-clear (blockCheck (not (F .laid C s))) last rest));
         good = then-clear (blockCheck (not (F .laid C s))) last rest;
       }
 
   pub read-clear : Readable F s B → readingCheck F s B ≡ Clear
   unfolding readingCheck
-  read-clear r = rw (start-next s B (r .long), r .fitting, r .keeps, clear-block) (r .good)
+  read-clear r = rw (head-next s B (r .long), r .fitting, r .keeps, clear-block) (r .good)
 
   -- read, one check after the other
-  module _ (r : Check) (start : r ≡ startCheck s B) where
+  module _ (r : Check) (head : r ≡ headCheck s B) where
     pub read-unfit : (x : Refusal) → r ≡ Refused x → Refused x ≡ readingCheck F s B
     unfolding readingCheck
-    read-unfit x e = rw (← start, e)
+    read-unfit x e = rw (← head, e)
 
     -- what the sheet holds is looked at next
-    pub read-rest : (g : Check) (c : ℕ) → r ≡ Clear → c ≡ capacityIn s → g ≡ heldCheck F c s → g ≡ readingCheck F s B
+    pub read-rest : (g : Check) (c : ℕ) → r ≡ Clear → c ≡ capacityIn s → g ≡ sheetCheck F c s → g ≡ readingCheck F s B
     unfolding readingCheck
-    read-rest g c clear is h = rw (← start, clear, ← is) h
+    read-rest g c clear is h = rw (← head, clear, ← is) h
 
     module _ (clear : r ≡ Clear) (c : ℕ) (is : c ≡ capacityIn s) (l : Bool) (layout : l ≡ F .laid c s) where
       pub read-broken : l ≡ false → Refused Block ≡ readingCheck F s B
       unfolding readingCheck
-      read-broken e = rw (← start, clear, ← is, ← layout, e, refused-block)
+      read-broken e = rw (← head, clear, ← is, ← layout, e, refused-block)
 
       pub read-tested : (g : Check) → l ≡ true → g ≡ goodCheck c (F .leaves c s) → g ≡ readingCheck F s B
       unfolding readingCheck
-      read-tested g e h = rw (← start, clear, ← is, ← layout, e, clear-block) h
+      read-tested g e h = rw (← head, clear, ← is, ← layout, e, clear-block) h
 
   -- and what is then in the lent board
   pub read-kept : (x : Refusal) → Refused x ≡ readingCheck F s B → (Refused x ≡ readingCheck F s B) × (B ≡ loadedBoardAs F s B)

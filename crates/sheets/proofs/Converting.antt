@@ -2,36 +2,27 @@
 use mathlib.Core.Path.{_≡_, refl, sym, ap, _∙_}
 use mathlib.Core.Bool.{true}
 use mathlib.Core.List.{List, _++_}
-use Prim.Native.Nat.{ℕ, _*_, _≤_, _<_}
+use Prim.Native.Nat.{ℕ, _≤_, _<_}
 use native.Mathlib.Omega.{arith}
 use lib.ListN.{length, take, drop, replicate}
 use lib.Seq.{take-at, take-all}
-use borrow.Author.Tests.{lt-ltb, le-ltb, eq-eqb, ne-eqb}
+use borrow.Author.Tests.{le-ltb, eq-eqb, ne-eqb}
 use Rattle.pieces.specs.Board.{good}
 use Rattle.calls.specs.Refusals.{andThen}
 use Rattle.calls.specs.Results.{ifClear}
 use Rattle.calls.specs.declared.Refusal.{Refusal}
-use Rattle.calls.specs.declared.Refusal.the-variants.{Midround, Output}
+use Rattle.calls.specs.declared.Refusal.the-variants.{Midround}
 use Rattle.calls.specs.declared.Check.{Check}
 use Rattle.calls.specs.declared.Check.the-variants.{Clear, Refused}
 use Rattle.calls.proofs.Laws.{Sized, first-clear, open-clear}
 use Rattle.sheets.specs.declared.Saving.{Saving}
 use Rattle.sheets.specs.declared.Saving.the-variants as saving
 use Rattle.sheets.specs.Blocks.{Bytes, Words}
-use Rattle.sheets.specs.Sheet.{blocks, sheet, capacityIn}
+use Rattle.sheets.specs.Sheet.{capacityIn}
 use Rattle.sheets.specs.Forms.{Form, Puts, roomCheck, savingBy, savingAnswer, readingCheck, loadedBoardAs}
-use Rattle.sheets.specs.Results.{leafForm}
 use Rattle.sheets.specs.Conversions.{spare, atStart, boardFrom, sizeFrom, convertCheck, converted, convertedOutput, Converts}
 use Rattle.sheets.proofs.Checked.{saving-told, Readable, clear-read, read-clear, check-good}
 use Rattle.sheets.proofs.Trips.{Exact, saving-done, trip-readable}
-
--- a board's sheet of leaves put into an output
-module _ (C m : ℕ) (B O : List ℕ) (blocksAre : m ≡ blocks C) where
-  pub leaves-short : length O < 512 * m → Puts leafForm C 1 B O (saving.Refused Output) O
-  leaves-short h = rw (← blocksAre, lt-ltb (length O) (512 * m) h) (refl, refl)
-
-  pub leaves-all : 512 * m ≤ length O → (E : List ℕ) → E ≡ sheet C B ++ drop (512 * blocks C) O → Puts leafForm C 1 B O (saving.Done (512 * m)) E
-  leaves-all h E w = rw (← blocksAre, le-ltb (length O) (512 * m) h) (refl, rw (← blocksAre) at w)
 
 -- the position at which the leaf form is written
 pub at-start : (p q : ℕ) → p ≡ q → p ≡ 1 → atStart q ≡ Clear
@@ -165,11 +156,10 @@ module _ (F G : Form) (At Bt : ℕ → ℕ → Type 0) (x : Exact F At) (y : Exa
     pub there-and-back :
         (converted G F bt (take n (convertedOutput F G at s O)) P ≡ saving.Done (length s))
         × (convertedOutput G F bt (take n (convertedOutput F G at s O)) P ≡ s ++ drop (length s) P)
-    there-and-back =
-        rw (written, again-clear) (
-          ap (savingBy Clear) again-size,
-          ap (λ (c : ℕ). F .sheet c (G .position over) (boardFrom G over) ++ drop (F .size c (boardFrom G over)) P) over-capacity
-              ∙ ap (λ (p : ℕ). F .sheet (capacityIn s) p (boardFrom G over) ++ drop (F .size (capacityIn s) (boardFrom G over)) P) over-position
-              ∙ ap (λ (q : List ℕ). q ++ drop (F .size (capacityIn s) (boardFrom G over)) P) again
-              ∙ ap (λ (m : ℕ). s ++ drop m P) (sym (x .long (capacityIn s) (F .position s) (boardFrom G over)) ∙ ap length again),
-        )
+    there-and-back = rw (written, again-clear) (
+      ap (savingBy Clear) again-size,
+      ap (λ (c : ℕ). F .sheet c (G .position over) (boardFrom G over) ++ drop (F .size c (boardFrom G over)) P) over-capacity
+          ∙ ap (λ (p : ℕ). F .sheet (capacityIn s) p (boardFrom G over) ++ drop (F .size (capacityIn s) (boardFrom G over)) P) over-position
+          ∙ ap (λ (q : List ℕ). q ++ drop (F .size (capacityIn s) (boardFrom G over)) P) again
+          ∙ ap (λ (m : ℕ). s ++ drop m P) (sym (x .long (capacityIn s) (F .position s) (boardFrom G over)) ∙ ap length again),
+    )

@@ -4,7 +4,7 @@
 use mathlib.Core.Path.{_≡_, refl, sym, ap, subst, _∙_}
 use mathlib.Core.Bool.{true, false, not}
 use mathlib.Core.List.{List, [], _∷_, _++_}
-use Prim.Native.Nat.{ℕ, suc, _+_, _-_, _*_, _/_, _^_, _≤_, _<_}
+use Prim.Native.Nat.{ℕ, suc, _+_, _-_, _*_, _/_, _≤_, _<_}
 use native.Mathlib.Omega.{arith}
 use native.Mathlib.Decide.{decLt}
 use lib.Dec.{eqb}
@@ -13,56 +13,51 @@ use borrow.Author.Tests.{le-ltb}
 use Rattle.general.proofs.Laws.{never}
 use Rattle.pieces.specs.Board.{good}
 use Rattle.pieces.specs.Listing.{namedPieces}
-use Rattle.sequences.specs.Board.{digits}
-use Rattle.sequences.proofs.Laws.{digits-lt}
 use Rattle.calls.specs.Records.{driveAt}
 use Rattle.calls.specs.Refusals.{andThen, zeroOr, numbers, among, positionCheck}
 use Rattle.calls.specs.declared.Drive.{Drive}
 use Rattle.calls.specs.declared.Refusal.the-variants.{Midround, Block}
 use Rattle.calls.specs.declared.Check.{Check}
 use Rattle.calls.specs.declared.Check.the-variants.{Clear, Refused}
+use Rattle.calls.specs.declared.Checked.{Checked}
+use Rattle.calls.specs.Answers.{checkAnswer}
 use Rattle.calls.specs.Results.{ifClear}
-use Rattle.calls.proofs.Laws.{Refuses, if-within, covers, ascending, Sized, open-clear, open-sized, slot-sized, slot-parts}
+use Rattle.calls.proofs.Laws.{Refuses, if-within, covers, ascending, Sized, open-clear, open-sized, slot-sized, slot-parts, position-first, change-parts, change-slot, change-start, change-good}
 use Rattle.sheets.specs.declared.Saved.{Saved}
 use Rattle.sheets.specs.declared.Saving.{Saving}
 use Rattle.sheets.specs.declared.Saving.the-variants as saving
-use Rattle.sheets.specs.declared.Loaded.{Loaded}
-use Rattle.sheets.specs.declared.Loading.the-variants as loading
-use Rattle.sheets.specs.Blocks.{Bytes, Words, listed, bytesOf, numberAt, block, stack}
-use Rattle.sheets.specs.Sheet.{blocks, leafOf, page, sheet, capacityIn, leafPlace, leafIn, sheetLeaves, laid, Layout}
-use Rattle.sheets.specs.Entries.{entryBlocks, entryPage, entryBytes, entrySheet, positionIn, spelled, keeps}
-use Rattle.sheets.specs.Forms.{Form, savingAnswer, readMay, startCheck, heldCheck, readingCheck, savedAs, savedAnswerAs, savedOutputAs, loadedAs, loadedAnswerAs, loadedBoardAs, loadingAnswer}
+use Rattle.sheets.specs.Blocks.{Bytes, Words, valuesFrom, bytesOf, numberAt, block, stack}
+use Rattle.sheets.specs.Sheet.{blocks, leafOrZero, page, sheet, capacityIn, leafPlace, leafIn, sheetLeaves, laid, Layout}
+use Rattle.sheets.specs.Entries.{entryBlocks, entryPage, entryBytes, entrySheet, positionIn, spelled, entriesLaid}
+use Rattle.sheets.specs.Forms.{Form, savingAnswer, readMay, headCheck, sheetCheck, readingCheck, savedAs, savedAnswerAs, savedOutputAs, loadedAs, loadedAnswerAs, loadedBoardAs}
 use Rattle.sheets.specs.Results.{leafForm, pieceForm, saveMay, savePiecesMay, saveCheck, saved, savedAnswer, savedOutput, readCheck, loaded, loadedAnswer, loadedBoard}
 use Rattle.sheets.specs.Promises.{Saves, Loads, SavesPieces, LoadsPieces}
 use Rattle.sheets.specs.Conversions.{atStart, anywhere, converted, convertedOutput, ToPieces, ToLeaves, toPiecesMay, toLeavesMay}
-use Rattle.sheets.proofs.Lists.{listed-at}
+use Rattle.sheets.proofs.Lists.{values-at}
 use Rattle.sheets.proofs.Numbers.{number-small}
 use Rattle.sheets.proofs.Layouts.{sheet-length, sheet-layout, sheet-leaves, layout-sheet, laid-layout, layout-laid}
 use Rattle.sheets.proofs.Stores.{leaves-length}
-use Rattle.sheets.proofs.Checked.{good-check, refused-block, written-parts, save-parts, save-slot, save-good, save-start, save-room, start-open, clear-read}
+use Rattle.sheets.proofs.Checked.{good-check, refused-block, save-change, save-room, clear-read}
 use Rattle.sheets.proofs.Answers.{saves-unique, saves-refused, saves-answers, saves-may, loads-unique, loads-refused, loads-answers, loads-may, converts-unique, converts-refused, converts-may}
 use Rattle.sheets.proofs.Trips.{Exact, saved-reads-back, saved-at, accepted-sized, accepted-good, only-such-sheets}
-use Rattle.sheets.proofs.Restored.{entries-exact, kept-parts}
+use Rattle.sheets.proofs.Restored.{entries-exact, entries-laid-parts}
 use Rattle.sheets.proofs.Faults.{spelled-words}
 use Rattle.sheets.proofs.Converting.{there-and-back}
 -- The test of read of the piece form passes just the bytes without a fault of document 02's list, and what save writes has none.
-pub use Rattle.sheets.proofs.Faults.{keeps-entered, entered-keeps, sheet-entered}
+pub use Rattle.sheets.proofs.Faults.{entries-laid-layout, layout-entries-laid, entry-sheet-layout}
+-- The checks of save of each form, one part after the other, and what is known once the first of read's find nothing.
+pub use Rattle.sheets.proofs.Checked.{save-parts, entry-parts, head-long, head-open}
 
 -- what passes the checks of save
-position-first : (C : ℕ) → 0 < C → positionCheck C 1 ≡ Clear
-unfolding positionCheck
-position-first C pos = rw (le-ltb (2 ^ digits C - 1) 1 (omega (arith, digits-lt C)))
-
 save-first : (C : ℕ) (B : List ℕ) (n : ℕ) → Sized C B → good C B ≡ true → 512 * blocks C ≤ n → saveCheck (driveAt C 1) B n ≡ Clear
-save-first C B n s g room =
-    save-parts (driveAt C 1) B n
-    ∙ rw (slot-parts (driveAt C 1) B, open-sized C B s, position-first C (s .some), written-parts C B n, good-check C B g, le-ltb n (512 * blocks C) room)
+save-first C B n s g room = save-parts (driveAt C 1) B n
+    ∙ rw (change-parts (driveAt C 1) B, slot-parts (driveAt C 1) B, open-sized C B s, position-first C (s .some), good-check C B g, le-ltb n (512 * blocks C) room)
 
 -- a sheet hangs on the leaves alone
 sheet-taken : (C : ℕ) (B D : List ℕ) → take C B ≡ take C D → sheet C B ≡ sheet C D
-unfolding sheet page leafOf
+unfolding sheet page leafOrZero
 sheet-taken C B D e =
-    ap (λ (L : List ℕ). bytesOf (stack (λ (b : ℕ). block b C (listed (λ (i : ℕ). getD L i 0) (253 * b) 253)) 0 (blocks C))) e
+    ap (λ (L : List ℕ). bytesOf (stack (λ (b : ℕ). block b C (valuesFrom (λ (i : ℕ). getD L i 0) (253 * b) 253)) 0 (blocks C))) e
 
 -- the capacity that a sheet gives
 sheet-capacity : (C : ℕ) (s : List ℕ) → 0 < C → Layout C s → capacityIn s ≡ C
@@ -86,7 +81,7 @@ module _ (C : ℕ) (s : List ℕ) (bytes : Bytes s) where
   leaves-words : Words (sheetLeaves C s)
   unfolding sheetLeaves leafIn
   leaves-words i = elim (decLt i C) [
-    | yes h ↦ rw (listed-at (leafIn s) 0 C i h) (number-small s (leafPlace (0 + i)) bytes)
+    | yes h ↦ rw (values-at (leafIn s) 0 C i h) (number-small s (leafPlace (0 + i)) bytes)
     | no h ↦
         let past : length (sheetLeaves C s) ≤ i = omega (arith, leaves-length C s) in
         rw (List·getD-eq-default (sheetLeaves C s) 0 past) (omega arith)
@@ -99,7 +94,7 @@ module _ (C : ℕ) (s : List ℕ) (bytes : Bytes s) where
 pub leaves-exact : Exact leafForm (λ C p. p ≡ 1)
 unfolding blocks
 leaves-exact = record {
-  asks = λ d B n e. (slot-sized d B (save-slot d B n e), save-good d B n e, save-start d B n e, save-room d B n e);
+  asks = λ d B n e. let k = save-change d B n e in (slot-sized d B (change-slot d B k), change-good d B k, change-start d B k, save-room d B n e);
   lets = λ C p B n s g at room. rw at (save-first C B n s g room);
   long = λ C p B. sheet-length C B;
   least = λ C B pos. omega arith;
@@ -116,7 +111,7 @@ leaves-exact = record {
 -- Demand 2: what save writes reads back as the same board and capacity. B is the board saved, of u16 leaves, O the output and L the board lent to read.
 module _ (d : Drive) (B O L : List ℕ) (n : ℕ) (words : Words B) (done : saved d B O .answer ≡ saving.Done n) (room : d .capacity ≤ length L) where
   pub demand-2-saved-reads-back :
-      (loaded (take n (savedOutput d B O)) L ≡ record { drive = driveAt (d .capacity) 1; answer = loading.Done })
+      (loaded (take n (savedOutput d B O)) L ≡ record { drive = driveAt (d .capacity) 1; answer = Clear })
       × (loadedBoard (take n (savedOutput d B O)) L ≡ take (d .capacity) B ++ drop (d .capacity) L)
   demand-2-saved-reads-back =
       let e = saved-reads-back leafForm (λ C p. p ≡ 1) leaves-exact d B O L n words done room in
@@ -132,7 +127,7 @@ module _ (s L : List ℕ) (accepted : readCheck s L ≡ Clear) where
   read-good = accepted-good leafForm (λ C p. p ≡ 1) leaves-exact s L accepted
 
 -- Demand 2: whatever bytes read accepts are the very bytes that save writes for the board that it sets. L is the board lent to read, O an output with room.
-module _ (s L O : List ℕ) (bytes : Bytes s) (done : loaded s L .answer ≡ loading.Done) (room : length s ≤ length O) where
+module _ (s L O : List ℕ) (bytes : Bytes s) (done : loaded s L .answer ≡ Clear) (room : length s ≤ length O) where
   pub demand-2-only-such-sheets :
       (saved (loaded s L .drive) (loadedBoard s L) O ≡ record { drive = loaded s L .drive; answer = saving.Done (length s) })
       × (savedOutput (loaded s L .drive) (loadedBoard s L) O ≡ s ++ drop (length s) O)
@@ -143,12 +138,12 @@ module _ (s L O : List ℕ) (bytes : Bytes s) (done : loaded s L .answer ≡ loa
 -- Demand 2: what save_pieces writes reads back as the same board, capacity and position.
 module _ (d : Drive) (B O L : List ℕ) (n : ℕ) (words : Words B) (done : savedAs pieceForm d B O .answer ≡ saving.Done n) (room : d .capacity ≤ length L) where
   pub demand-2-pieces-read-back :
-      (loadedAs pieceForm (take n (savedOutputAs pieceForm d B O)) L ≡ record { drive = driveAt (d .capacity) (d .position); answer = loading.Done })
+      (loadedAs pieceForm (take n (savedOutputAs pieceForm d B O)) L ≡ record { drive = driveAt (d .capacity) (d .position); answer = Clear })
       × (loadedBoardAs pieceForm (take n (savedOutputAs pieceForm d B O)) L ≡ take (d .capacity) B ++ drop (d .capacity) L)
   demand-2-pieces-read-back = saved-reads-back pieceForm (λ C p. positionCheck C p ≡ Clear) entries-exact d B O L n words done room
 
 -- Demand 2: whatever bytes read_pieces accepts are the very bytes that save_pieces writes for the board and the position that it sets.
-module _ (s L O : List ℕ) (bytes : Bytes s) (done : loadedAs pieceForm s L .answer ≡ loading.Done) (room : length s ≤ length O) where
+module _ (s L O : List ℕ) (bytes : Bytes s) (done : loadedAs pieceForm s L .answer ≡ Clear) (room : length s ≤ length O) where
   pub demand-2-only-such-pieces :
       (savedAs pieceForm (loadedAs pieceForm s L .drive) (loadedBoardAs pieceForm s L) O ≡ record { drive = loadedAs pieceForm s L .drive; answer = saving.Done (length s) })
       × (savedOutputAs pieceForm (loadedAs pieceForm s L .drive) (loadedBoardAs pieceForm s L) O ≡ s ++ drop (length s) O)
@@ -163,22 +158,22 @@ module _ (s L : List ℕ) (accepted : readingCheck pieceForm s L ≡ Clear) wher
   read-pieces-good = accepted-good pieceForm (λ C p. positionCheck C p ≡ Clear) entries-exact s L accepted
 
   pub read-pieces-position : positionCheck (capacityIn s) (positionIn s) ≡ Clear
-  read-pieces-position = kept-parts (capacityIn s) s (clear-read pieceForm s L accepted .keeps) .0
+  read-pieces-position = entries-laid-parts (capacityIn s) s (clear-read pieceForm s L accepted .keeps) .0
 
 -- ---- each reader and the other's sheets
 
 -- What a reader answers to bytes that do not keep its layout: 12 after its earlier checks, and the board as it was.
 module _ (F : Form) (s L : List ℕ) (other : 0 < capacityIn s → F .laid (capacityIn s) s ≡ false) where
-  pub other-check : readingCheck F s L ≡ andThen (startCheck s L) (Refused Block)
+  pub other-check : readingCheck F s L ≡ andThen (headCheck s L) (Refused Block)
   unfolding readingCheck
-  other-check = by-check (startCheck s L) refl
+  other-check = by-check (headCheck s L) refl
     where
-      by-check : (k : Check) → startCheck s L ≡ k → andThen k (heldCheck F (capacityIn s) s) ≡ andThen k (Refused Block)
-      by-check Clear e = rw (other (open-clear (capacityIn s) L (start-open s L e) .some), refused-block) refl
+      by-check : (k : Check) → headCheck s L ≡ k → andThen k (sheetCheck F (capacityIn s) s) ≡ andThen k (Refused Block)
+      by-check Clear e = rw (other (open-clear (capacityIn s) L (head-open s L e) .some), refused-block) refl
       by-check (Refused r) e = refl
 
   pub other-board : loadedBoardAs F s L ≡ L
-  other-board = rw other-check (never (startCheck s L))
+  other-board = rw other-check (never (headCheck s L))
     where
       never : (k : Check) → ifClear (andThen k (Refused Block)) (F .leaves (capacityIn s) s ++ drop (capacityIn s) L) L ≡ L
       never Clear = refl
@@ -193,7 +188,7 @@ entry-zero C p B =
 
 -- An old reader answers 12 to any sheet of pieces that gets past its earlier checks, and never shows a board.
 pub old-reader : (C p : ℕ) (B L : List ℕ) → let s = entrySheet C p B in
-    (readCheck s L ≡ andThen (startCheck s L) (Refused Block)) × (loadedBoard s L ≡ L)
+    (readCheck s L ≡ andThen (headCheck s L) (Refused Block)) × (loadedBoard s L ≡ L)
 old-reader C p B L =
     let s = entrySheet C p B in
     let other : 0 < capacityIn s → laid (capacityIn s) s ≡ false =
@@ -203,13 +198,13 @@ old-reader C p B L =
 
 -- And the new reader the same to any sheet of leaves.
 pub new-reader : (C : ℕ) (B L : List ℕ) → 0 < C → C < 65536 → Words B → let s = sheet C B in
-    (readingCheck pieceForm s L ≡ andThen (startCheck s L) (Refused Block)) × (loadedBoardAs pieceForm s L ≡ L)
+    (readingCheck pieceForm s L ≡ andThen (headCheck s L) (Refused Block)) × (loadedBoardAs pieceForm s L ≡ L)
 new-reader C B L some few words =
     let s = sheet C B in
     let first = sheet-first C s some (sheet-layout C B few words) in
-    let other : 0 < capacityIn s → keeps (capacityIn s) s ≡ false =
-    λ h. never (keeps (capacityIn s) s) (λ t.
-    let e = kept-parts (capacityIn s) s t .1 in
+    let other : 0 < capacityIn s → entriesLaid (capacityIn s) s ≡ false =
+    λ h. never (entriesLaid (capacityIn s) s) (λ t.
+    let e = entries-laid-parts (capacityIn s) s t .1 in
     omega (arith, first, ap (λ (q : List ℕ). numberAt q 0) e, entry-zero (capacityIn s) (positionIn s) (spelled (capacityIn s) s)))
     in
     (other-check pieceForm s L other, other-board pieceForm s L other)
@@ -274,28 +269,28 @@ module _ (d : Drive) (B O : List ℕ) where
   save-pieces-may = saves-may pieceForm d B O
 
 module _ (s B : List ℕ) where
-  pub read-unique : {r q : Loaded} {E F : List ℕ} → Loads s B r E → Loads s B q F → (r ≡ q) × (E ≡ F)
+  pub read-unique : {r q : Checked} {E F : List ℕ} → Loads s B r E → Loads s B q F → (r ≡ q) × (E ≡ F)
   read-unique = loads-unique leafForm s B
 
-  pub read-refused : {r : Loaded} {E : List ℕ} → Loads s B r E → Refuses (loadingAnswer (r .answer)) → (r .drive ≡ driveAt 0 0) × (E ≡ B)
+  pub read-refused : {r : Checked} {E : List ℕ} → Loads s B r E → Refuses (checkAnswer (r .answer)) → (r .drive ≡ driveAt 0 0) × (E ≡ B)
   read-refused = loads-refused leafForm s B
 
   pub read-answers : among (loadedAnswer s B .number) readMay ≡ true
   read-answers = loads-answers leafForm s B
 
-  pub read-may : {r : Loaded} {E : List ℕ} → Loads s B r E → among (loadingAnswer (r .answer) .number) readMay ≡ true
+  pub read-may : {r : Checked} {E : List ℕ} → Loads s B r E → among (checkAnswer (r .answer) .number) readMay ≡ true
   read-may = loads-may leafForm s B
 
-  pub read-pieces-unique : {r q : Loaded} {E F : List ℕ} → LoadsPieces s B r E → LoadsPieces s B q F → (r ≡ q) × (E ≡ F)
+  pub read-pieces-unique : {r q : Checked} {E F : List ℕ} → LoadsPieces s B r E → LoadsPieces s B q F → (r ≡ q) × (E ≡ F)
   read-pieces-unique = loads-unique pieceForm s B
 
-  pub read-pieces-refused : {r : Loaded} {E : List ℕ} → LoadsPieces s B r E → Refuses (loadingAnswer (r .answer)) → (r .drive ≡ driveAt 0 0) × (E ≡ B)
+  pub read-pieces-refused : {r : Checked} {E : List ℕ} → LoadsPieces s B r E → Refuses (checkAnswer (r .answer)) → (r .drive ≡ driveAt 0 0) × (E ≡ B)
   read-pieces-refused = loads-refused pieceForm s B
 
   pub read-pieces-answers : among (loadedAnswerAs pieceForm s B .number) readMay ≡ true
   read-pieces-answers = loads-answers pieceForm s B
 
-  pub read-pieces-may : {r : Loaded} {E : List ℕ} → LoadsPieces s B r E → among (loadingAnswer (r .answer) .number) readMay ≡ true
+  pub read-pieces-may : {r : Checked} {E : List ℕ} → LoadsPieces s B r E → among (checkAnswer (r .answer) .number) readMay ≡ true
   read-pieces-may = loads-may pieceForm s B
 
 -- So do conversions; they answer as their read without 2.

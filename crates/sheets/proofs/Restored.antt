@@ -9,32 +9,32 @@ use native.Mathlib.Decide.{decLt, ℕ-discrete}
 use lib.ListN.{length, getD, take, replicate, length-append, length-replicate, List·getD-append, List·getD-eq-default}
 use lib.Seq.{ext-getD, getD-append-add, getD-take, length-take-le, take-length, take-all}
 use borrow.Author.Tests.{le-ltb}
-use Rattle.general.proofs.Laws.{by-bool, and-left, and-right}
+use Rattle.general.specs.Tests.{same}
+use Rattle.general.proofs.Laws.{by-bool, and-left, and-right, same-true, true-same, zero-at}
 use Rattle.pieces.specs.Board.{whole}
 use Rattle.pieces.specs.Placing.{fill}
 use Rattle.pieces.specs.Listing.{entry, named, namedPieces}
 use Rattle.pieces.proofs.Laws.{whole-elim, whole-end, leaf-whole, named-past, named-run, named-halves, named-same, named-few, named-words, fill-length, fill-inside, fill-outside}
 use Rattle.sequences.proofs.Laws.{digits-le}
 use Rattle.calls.specs.Records.{driveAt}
-use Rattle.calls.specs.Refusals.{openCheck, positionCheck}
-use Rattle.calls.specs.declared.Check.{Check}
-use Rattle.calls.specs.declared.Check.the-variants.{Clear, Refused}
-use Rattle.calls.proofs.Laws.{Sized, then-clear, open-sized, slot-sized, slot-parts, slot-position}
-use Rattle.sheets.specs.Blocks.{Words, listed, sumOf, numberAt}
-use Rattle.sheets.specs.Sheet.{leafOf, capacityIn}
-use Rattle.sheets.specs.Entries.{entryBlocks, entryPage, entryBytes, entrySheet, positionIn, entryIn, fits, spell, spelled, same, isClear, keeps}
+use Rattle.calls.specs.Refusals.{openCheck, positionCheck, isClear}
+use Rattle.calls.specs.declared.Check.the-variants.{Clear}
+use Rattle.calls.proofs.Laws.{Sized, is-clear, then-clear, open-sized, slot-sized, slot-parts, slot-position}
+use Rattle.sheets.specs.Blocks.{Words, valuesFrom, sumOf, numberAt}
+use Rattle.sheets.specs.Sheet.{leafOrZero, capacityIn}
+use Rattle.sheets.specs.Entries.{entryBlocks, entryPage, entryBytes, entrySheet, positionIn, entryIn, readable, spell, spelled, entriesLaid}
 use Rattle.sheets.specs.Forms.{sizeOf}
 use Rattle.sheets.specs.Results.{pieceForm}
-use Rattle.sheets.proofs.Lists.{listed-at}
+use Rattle.sheets.proofs.Lists.{values-at}
 use Rattle.sheets.proofs.Pages.{number-written, capacity-written, held-written, sum-written}
-use Rattle.sheets.proofs.Spelling.{heldEntries, entryNumber, entries-full, entry-sheet-length, fits-idle, fits-intro, spell-more, spell-stop, spell-end, spelled-length, same-true, true-same}
+use Rattle.sheets.proofs.Spelling.{heldEntries, entryNumber, entries-full, entry-sheet-length, readable-idle, readable-intro, spell-more, spell-stop, spell-end, spelled-length}
 use Rattle.sheets.proofs.Checked.{good-check, entry-parts, entry-slot, entry-good, entry-room}
 use Rattle.sheets.proofs.Trips.{Exact}
 
 -- ---- spelling the pieces of a block
 
 -- The entries of the block (a, l), read from entry i on, are `count` entries, and give it the leaves of B: D′ is the board then, and they end at at′.
-pub record Spelt (f : ℕ → ℕ) (C : ℕ) (B D : List ℕ) (at i a l : ℕ) : Type 0 where
+pub record Spelled (f : ℕ → ℕ) (C : ℕ) (B D : List ℕ) (at i a l : ℕ) : Type 0 where
   pub count : ℕ
   pub board : List ℕ
   pub end : ℕ
@@ -47,9 +47,9 @@ pub record Spelt (f : ℕ → ℕ) (C : ℕ) (B D : List ℕ) (at i a l : ℕ) :
 
 module _ (f : ℕ → ℕ) (C : ℕ) (small : C ≤ 4095) (B : List ℕ) where
   -- a block with nothing to read
-  spelt-none : (D : List ℕ) (at i a l : ℕ) → named C B a l ≡ [] → at ≤ a → ((j : ℕ) → a ≤ j → j < a + 2 ^ l → j < C → getD D j 0 ≡ getD B j 0)
-      → Spelt f C B D at i a l
-  spelt-none D at i a l e h same = record {
+  spelled-none : (D : List ℕ) (at i a l : ℕ) → named C B a l ≡ [] → at ≤ a → ((j : ℕ) → a ≤ j → j < a + 2 ^ l → j < C → getD D j 0 ≡ getD B j 0)
+      → Spelled f C B D at i a l
+  spelled-none D at i a l e h same = record {
     count = 0;
     board = D;
     end = at;
@@ -62,13 +62,13 @@ module _ (f : ℕ → ℕ) (C : ℕ) (small : C ≤ 4095) (B : List ℕ) where
   }
 
   -- a run
-  spelt-run : (D : List ℕ) (at i q a l : ℕ) → l ≤ 12 → a ≡ q * 2 ^ l → at ≤ a → a < C → length D ≡ C → ((j : ℕ) → a ≤ j → j < a + 2 ^ l → getD D j 0 ≡ 0)
+  spelled-run : (D : List ℕ) (at i q a l : ℕ) → l ≤ 12 → a ≡ q * 2 ^ l → at ≤ a → a < C → length D ≡ C → ((j : ℕ) → a ≤ j → j < a + 2 ^ l → getD D j 0 ≡ 0)
       → ((j : ℕ) → j < length (named C B a l) → f (3 * i + j) ≡ getD (named C B a l) j 0) → whole C B (getD B a 0) a l ≡ true
-      → (x : ℕ) → getD B a 0 ≡ x → Spelt f C B D at i a l
-  spelt-run D at i q a l k m h c size idle are t zero e =
-      spelt-none D at i a l (named-run C B a l c t ∙ ap (λ (y : ℕ). entry y a l) e) h
+      → (x : ℕ) → getD B a 0 ≡ x → Spelled f C B D at i a l
+  spelled-run D at i q a l k m h c size idle are t zero e =
+      spelled-none D at i a l (named-run C B a l c t ∙ ap (λ (y : ℕ). entry y a l) e) h
       (λ j p r b. idle j p r ∙ sym (whole-elim C B (getD B a 0) a l t j p r .1 ∙ e))
-  spelt-run D at i q a l k m h c size idle are t (suc x) e =
+  spelled-run D at i q a l k m h c size idle are t (suc x) e =
       let list : named C B a l ≡ suc x ∷ a ∷ l ∷ [] = named-run C B a l c t ∙ ap (λ (y : ℕ). entry y a l) e in
       let three : length (named C B a l) ≡ 3 = ap length list in
       let stop = whole-end C B (getD B a 0) a l t in
@@ -76,8 +76,8 @@ module _ (f : ℕ → ℕ) (C : ℕ) (small : C ≤ 4095) (B : List ℕ) where
       let e₀ : suc x ≡ f (3 * i) = sym (ap f (sym (add-zero (3 * i))) ∙ are 0 (omega arith) ∙ ap (λ (L : List ℕ). getD L 0 0) list) in
       let e₁ : a ≡ f (3 * i + 1) = sym (are 1 (omega arith) ∙ ap (λ (L : List ℕ). getD L 1 0) list) in
       let e₂ : l ≡ f (3 * i + 2) = sym (are 2 (omega arith) ∙ ap (λ (L : List ℕ). getD L 2 0) list) in
-      let fit : fits C at (suc x) a l ≡ true =
-      fits-intro C at (suc x) a l
+      let fit : readable C at (suc x) a l ≡ true =
+      readable-intro C at (suc x) a l
       (record { owner = λ z. omega arith; small = low; multiple = ap (λ (n : ℕ). n % 2 ^ l) m ∙ mul-mod-left q (2 ^ l); after = h; ends = stop })
       in
       record {
@@ -102,13 +102,13 @@ module _ (f : ℕ → ℕ) (C : ℕ) (small : C ≤ 4095) (B : List ℕ) where
             | no r ↦ omega arith
           ]
 
-  abbrev Block-spelt : ℕ → Type 0
-  Block-spelt l = (D : List ℕ) (at i q a : ℕ) → l ≤ 12 → a ≡ q * 2 ^ l → at ≤ a → length D ≡ C → ((j : ℕ) → a ≤ j → j < a + 2 ^ l → getD D j 0 ≡ 0)
-      → ((j : ℕ) → j < length (named C B a l) → f (3 * i + j) ≡ getD (named C B a l) j 0) → Spelt f C B D at i a l
+  abbrev BlockSpelled : ℕ → Type 0
+  BlockSpelled l = (D : List ℕ) (at i q a : ℕ) → l ≤ 12 → a ≡ q * 2 ^ l → at ≤ a → length D ≡ C → ((j : ℕ) → a ≤ j → j < a + 2 ^ l → getD D j 0 ≡ 0)
+      → ((j : ℕ) → j < length (named C B a l) → f (3 * i + j) ≡ getD (named C B a l) j 0) → Spelled f C B D at i a l
 
-  spelt-join : (l : ℕ) (D : List ℕ) (at i a : ℕ) → whole C B (getD B a 0) a (suc l) ≡ false → (u : Spelt f C B D at i a l)
-      → Spelt f C B (u .board) (u .end) (i + u .count) (a + 2 ^ l) l → Spelt f C B D at i a (suc l)
-  spelt-join l D at i a t u v =
+  spelled-join : (l : ℕ) (D : List ℕ) (at i a : ℕ) → whole C B (getD B a 0) a (suc l) ≡ false → (u : Spelled f C B D at i a l)
+      → Spelled f C B (u .board) (u .end) (i + u .count) (a + 2 ^ l) l → Spelled f C B D at i a (suc l)
+  spelled-join l D at i a t u v =
       let sum : length (named C B a (suc l)) ≡ length (named C B a l) + length (named C B (a + 2 ^ l) l) =
       ap length (named-halves C B a l t) ∙ length-append (named C B a l) (named C B (a + 2 ^ l) l)
       in
@@ -132,53 +132,48 @@ module _ (f : ℕ → ℕ) (C : ℕ) (small : C ≤ 4095) (B : List ℕ) where
             v .outside j (λ p r. o (omega arith) (omega (arith, two-pow-succ l))) ∙ u .outside j (λ p r. o p (omega (arith, two-pow-succ l)));
       }
 
-  spelt-high : (l : ℕ) → Block-spelt l → (D : List ℕ) (at i q a : ℕ) → suc l ≤ 12 → a ≡ q * 2 ^ suc l → length D ≡ C
+  spelled-high : (l : ℕ) → BlockSpelled l → (D : List ℕ) (at i q a : ℕ) → suc l ≤ 12 → a ≡ q * 2 ^ suc l → length D ≡ C
       → ((j : ℕ) → a ≤ j → j < a + 2 ^ suc l → getD D j 0 ≡ 0)
       → ((j : ℕ) → j < length (named C B a (suc l)) → f (3 * i + j) ≡ getD (named C B a (suc l)) j 0)
-      → whole C B (getD B a 0) a (suc l) ≡ false → (u : Spelt f C B D at i a l) → Spelt f C B (u .board) (u .end) (i + u .count) (a + 2 ^ l) l
-  spelt-high l spelt D at i q a k m size idle are t u =
+      → whole C B (getD B a 0) a (suc l) ≡ false → (u : Spelled f C B D at i a l) → Spelled f C B (u .board) (u .end) (i + u .count) (a + 2 ^ l) l
+  spelled-high l half D at i q a k m size idle are t u =
       let lo = named C B a l in
       let hi = named C B (a + 2 ^ l) l in
       let both = named-halves C B a l t in
       let sum : length (named C B a (suc l)) ≡ length lo + length hi = ap length both ∙ length-append lo hi in
-      spelt (u .board) (u .end) (i + u .count) (2 * q + 1) (a + 2 ^ l) (omega arith) (omega (arith, ap (λ (n : ℕ). q * n) (two-pow-succ l))) (u .ends) (u .size ∙ size)
+      half (u .board) (u .end) (i + u .count) (2 * q + 1) (a + 2 ^ l) (omega arith) (omega (arith, ap (λ (n : ℕ). q * n) (two-pow-succ l))) (u .ends) (u .size ∙ size)
       (λ j p r. u .outside j (λ p′ r′. omega arith) ∙ idle j (omega arith) (omega (arith, two-pow-succ l)))
       (λ j b.
       let e : 3 * (i + u .count) + j ≡ 3 * i + (length lo + j) = omega (arith, u .counted) in
       ap f e ∙ are (length lo + j) (omega arith) ∙ ap (λ (L : List ℕ). getD L (length lo + j) 0) both ∙ getD-append-add lo hi j 0)
 
-  spelt-low : (l : ℕ) → Block-spelt l → (D : List ℕ) (at i q a : ℕ) → suc l ≤ 12 → a ≡ q * 2 ^ suc l → at ≤ a → length D ≡ C
+  spelled-low : (l : ℕ) → BlockSpelled l → (D : List ℕ) (at i q a : ℕ) → suc l ≤ 12 → a ≡ q * 2 ^ suc l → at ≤ a → length D ≡ C
       → ((j : ℕ) → a ≤ j → j < a + 2 ^ suc l → getD D j 0 ≡ 0)
       → ((j : ℕ) → j < length (named C B a (suc l)) → f (3 * i + j) ≡ getD (named C B a (suc l)) j 0)
-      → whole C B (getD B a 0) a (suc l) ≡ false → Spelt f C B D at i a l
-  spelt-low l spelt D at i q a k m h size idle are t =
+      → whole C B (getD B a 0) a (suc l) ≡ false → Spelled f C B D at i a l
+  spelled-low l half D at i q a k m h size idle are t =
       let lo = named C B a l in
       let hi = named C B (a + 2 ^ l) l in
       let both = named-halves C B a l t in
       let sum : length (named C B a (suc l)) ≡ length lo + length hi = ap length both ∙ length-append lo hi in
-      spelt D at i (2 * q) a (omega arith) (omega (arith, ap (λ (n : ℕ). q * n) (two-pow-succ l))) h size (λ j p r. idle j p (omega (arith, two-pow-succ l)))
+      half D at i (2 * q) a (omega arith) (omega (arith, ap (λ (n : ℕ). q * n) (two-pow-succ l))) h size (λ j p r. idle j p (omega (arith, two-pow-succ l)))
       (λ j b. are j (omega arith) ∙ ap (λ (L : List ℕ). getD L j 0) both ∙ List·getD-append lo hi 0 j b)
 
-  pub spelt : (l : ℕ) → Block-spelt l
-  spelt zero D at i q a k m h size idle are =
+  pub block-spelled : (l : ℕ) → BlockSpelled l
+  block-spelled zero D at i q a k m h size idle are =
       elim (decLt a C) [
-        | yes c ↦ spelt-run D at i q a 0 k m h c size idle are (leaf-whole C B a c) (getD B a 0) refl
-        | no c ↦ spelt-none D at i a 0 (named-past C B a 0 (omega arith)) h (λ j p r b. absurd (omega arith))
+        | yes c ↦ spelled-run D at i q a 0 k m h c size idle are (leaf-whole C B a c) (getD B a 0) refl
+        | no c ↦ spelled-none D at i a 0 (named-past C B a 0 (omega arith)) h (λ j p r b. absurd (omega arith))
       ]
-  spelt (suc l) D at i q a k m h size idle are =
+  block-spelled (suc l) D at i q a k m h size idle are =
       elim (decLt a C) [
         | yes c ↦ by-bool (whole C B (getD B a 0) a (suc l))
-            (λ t. spelt-run D at i q a (suc l) k m h c size idle are t (getD B a 0) refl)
+            (λ t. spelled-run D at i q a (suc l) k m h c size idle are t (getD B a 0) refl)
             (λ t.
-            let u = spelt-low l (spelt l) D at i q a k m h size idle are t in
-            spelt-join l D at i a t u (spelt-high l (spelt l) D at i q a k m size idle are t u))
-        | no c ↦ spelt-none D at i a (suc l) (named-past C B a (suc l) (omega arith)) h (λ j p r b. absurd (omega arith))
+            let u = spelled-low l (block-spelled l) D at i q a k m h size idle are t in
+            spelled-join l D at i a t u (spelled-high l (block-spelled l) D at i q a k m size idle are t u))
+        | no c ↦ spelled-none D at i a (suc l) (named-past C B a (suc l) (omega arith)) h (λ j p r b. absurd (omega arith))
       ]
-
-pub zero-at : (n i : ℕ) → _≡_ {A = ℕ} (getD (replicate n 0) i 0) 0
-zero-at zero i = refl
-zero-at (suc n) zero = refl
-zero-at (suc n) (suc i) = zero-at n i
 
 -- after the last entry there is none
 pub after-last : (f : ℕ → ℕ) (C : ℕ) (D : List ℕ) (end m k : ℕ) → (0 < k → f (3 * m) ≡ 0) → spell f C D end m k ≡ D
@@ -187,12 +182,12 @@ after-last f C D end m zero h =
     rw e at (sym (spell-end f C D end m m (omega arith)))
 after-last f C D end m (suc k) h =
     let e : m + suc k - m ≡ suc k = omega arith in
-    rw e at (sym (spell-stop f C D end m (m + suc k) (f (3 * m)) (f (3 * m + 1)) (f (3 * m + 2)) (omega arith) refl refl refl (sym (fits-idle C end (f (3 * m)) (f (3 * m + 1)) (f (3 * m + 2)) (h (omega arith))))))
+    rw e at (sym (spell-stop f C D end m (m + suc k) (f (3 * m)) (f (3 * m + 1)) (f (3 * m + 2)) (omega arith) refl refl refl (sym (readable-idle C end (f (3 * m)) (f (3 * m + 1)) (f (3 * m + 2)) (h (omega arith))))))
 
 -- n blocks that spell the board
-pub spelt-board : (f : ℕ → ℕ) (C : ℕ) → C ≤ 4095 → (B : List ℕ) → C ≤ length B → (n : ℕ) → (u : Spelt f C B (replicate C 0) 0 0 0 12) → length (namedPieces C B) ≤ 252 * n
+pub spelled-board : (f : ℕ → ℕ) (C : ℕ) → C ≤ 4095 → (B : List ℕ) → C ≤ length B → (n : ℕ) → (u : Spelled f C B (replicate C 0) 0 0 0 12) → length (namedPieces C B) ≤ 252 * n
     → (3 * u .count < 252 * n → f (3 * u .count) ≡ 0) → spell f C (replicate C 0) 0 0 (84 * n) ≡ take C B
-spelt-board f C few B long n u room last =
+spelled-board f C few B long n u room last =
     let k = 84 * n - u .count in
     let parts : 84 * n ≡ u .count + k = omega (arith, u .counted) in
     ap (λ (m : ℕ). spell f C (replicate C 0) 0 0 m) parts ∙ u .reads k ∙ ap (λ (m : ℕ). spell f C (u .board) (u .end) m k) (zero-add (u .count))
@@ -214,8 +209,8 @@ module _ (C p : ℕ) (B : List ℕ) (sized : Sized C B) (words : Words B) (at : 
   list-few : length (namedPieces C B) ≤ 12288
   list-few = named-few C B 12 0
 
-  list-word : (i : ℕ) → leafOf (length (namedPieces C B)) (namedPieces C B) i ≡ getD (namedPieces C B) i 0
-  unfolding leafOf
+  list-word : (i : ℕ) → leafOrZero (length (namedPieces C B)) (namedPieces C B) i ≡ getD (namedPieces C B) i 0
+  unfolding leafOrZero
   list-word i = ap (λ (L : List ℕ). getD L i 0) (take-length (namedPieces C B))
 
   low : C < 65536
@@ -229,7 +224,7 @@ module _ (C p : ℕ) (B : List ℕ) (sized : Sized C B) (words : Words B) (at : 
   held-low b zero h l = position-small C p B sized at
   held-low b (suc j) h l =
       let k : j < 252 = omega arith in
-      rw (listed-at (leafOf (length (namedPieces C B)) (namedPieces C B)) (252 * b) 252 j k, list-word (252 * b + j))
+      rw (values-at (leafOrZero (length (namedPieces C B)) (namedPieces C B)) (252 * b) 252 j k, list-word (252 * b + j))
       (named-words C B words (sized .few) 12 0 (omega arith) (252 * b + j))
 
   pub entry-capacity : capacityIn (entrySheet C p B) ≡ C
@@ -264,7 +259,7 @@ module _ (C p : ℕ) (B : List ℕ) (sized : Sized C B) (words : Words B) (at : 
         let L = namedPieces C B in
         held-written entryNumber C (heldEntries p (length L) L) (entries-full C p (length L) L) (entryBlocks (length L)) low numbers-low held-low b 0 h (omega arith)
 
-    pub block-total : sumOf (listed (numberAt (entrySheet C p B)) (256 * b) 256) % 65536 ≡ 0
+    pub block-total : sumOf (valuesFrom (numberAt (entrySheet C p B)) (256 * b) 256) % 65536 ≡ 0
     unfolding entrySheet entryBytes entryPage
     block-total =
         let L = namedPieces C B in
@@ -281,16 +276,16 @@ module _ (C p : ℕ) (B : List ℕ) (sized : Sized C B) (words : Words B) (at : 
       let d : 252 * b + j ≡ i = omega arith in
       ap (λ (k : ℕ). numberAt (entrySheet C p B) (256 * b + k)) e
       ∙ held-written entryNumber C (heldEntries p (length L) L) (entries-full C p (length L) L) (entryBlocks (length L)) low numbers-low held-low b (suc j) (omega arith) (omega arith)
-      ∙ listed-at (leafOf (length L) L) (252 * b) 252 j (omega arith) ∙ list-word (252 * b + j) ∙ ap (λ (k : ℕ). getD L k 0) d
+      ∙ values-at (leafOrZero (length L) L) (252 * b) 252 j (omega arith) ∙ list-word (252 * b + j) ∙ ap (λ (k : ℕ). getD L k 0) d
 
   list-fits : length (namedPieces C B) ≤ 252 * entryBlocks (length (namedPieces C B))
   unfolding entryBlocks
   list-fits = omega arith
 
-  entry-spelt : Spelt (entryIn (entrySheet C p B)) C B (replicate C 0) 0 0 0 12
+  entry-spelled : Spelled (entryIn (entrySheet C p B)) C B (replicate C 0) 0 0 0 12
   unfolding entryBlocks
-  entry-spelt =
-      spelt (entryIn (entrySheet C p B)) C (sized .few) B 12 (replicate C 0) 0 0 0 0 (omega arith) refl (omega arith) (length-replicate {A = ℕ} C 0)
+  entry-spelled =
+      block-spelled (entryIn (entrySheet C p B)) C (sized .few) B 12 (replicate C 0) 0 0 0 0 (omega arith) refl (omega arith) (length-replicate {A = ℕ} C 0)
       (λ j p r. zero-at C j) (λ j h. ap (entryIn (entrySheet C p B)) (zero-add j) ∙ entry-number j (omega arith))
 
   pub entry-leaves : spelled C (entrySheet C p B) ≡ take C B
@@ -299,36 +294,31 @@ module _ (C p : ℕ) (B : List ℕ) (sized : Sized C B) (words : Words B) (at : 
       let n = entryBlocks (length (namedPieces C B)) in
       let slots : length (entrySheet C p B) / 512 ≡ n = omega (arith, entry-sheet-length C p B) in
       rw slots
-      (spelt-board (entryIn (entrySheet C p B)) C (sized .few) B (sized .long) n entry-spelt list-fits
-      (λ h. entry-number (3 * entry-spelt .count) h ∙ List·getD-eq-default (namedPieces C B) 0 (omega (arith, entry-spelt .counted))))
+      (spelled-board (entryIn (entrySheet C p B)) C (sized .few) B (sized .long) n entry-spelled list-fits
+      (λ h. entry-number (3 * entry-spelled .count) h ∙ List·getD-eq-default (namedPieces C B) 0 (omega (arith, entry-spelled .counted))))
 
 -- ---- the piece form is exact, and saved at any position
 
-clear-test : (k : Check) → isClear k ≡ true → k ≡ Clear
-clear-test Clear e = refl
-clear-test (Refused r) e = absurd (let z : _≡_ {A = ℕ} 0 1 = cc in omega arith)
-
 entry-taken : (C p : ℕ) (B D : List ℕ) → take C B ≡ take C D → entrySheet C p B ≡ entrySheet C p D
 unfolding entrySheet
-entry-taken C p B D e =
-    ap (λ (L : List ℕ). entryBytes C p (length L) L)
+entry-taken C p B D e = ap (λ (L : List ℕ). entryBytes C p (length L) L)
     (named-same C B D (λ i h. sym (getD-take C B i 0 h) ∙ ap (λ (L : List ℕ). getD L i 0) e ∙ getD-take C D i 0 h) 0 12)
 
-pub kept-parts : (C : ℕ) (s : List ℕ) → keeps C s ≡ true → (positionCheck C (positionIn s) ≡ Clear) × (s ≡ entrySheet C (positionIn s) (spelled C s))
-unfolding keeps
-kept-parts C s h =
+pub entries-laid-parts : (C : ℕ) (s : List ℕ) → entriesLaid C s ≡ true → (positionCheck C (positionIn s) ≡ Clear) × (s ≡ entrySheet C (positionIn s) (spelled C s))
+unfolding entriesLaid
+entries-laid-parts C s h =
     let at = isClear (positionCheck C (positionIn s)) in
     let is = same s (entrySheet C (positionIn s) (spelled C s)) in
-    (clear-test (positionCheck C (positionIn s)) (and-left at is h), same-true s (entrySheet C (positionIn s) (spelled C s)) (and-right at is h))
+    (is-clear (positionCheck C (positionIn s)) (and-left at is h), same-true s (entrySheet C (positionIn s) (spelled C s)) (and-right at is h))
 
-pub parts-kept : (C : ℕ) (s : List ℕ) → positionCheck C (positionIn s) ≡ Clear → s ≡ entrySheet C (positionIn s) (spelled C s) → keeps C s ≡ true
-unfolding keeps
-parts-kept C s at is = rw at (true-same s (entrySheet C (positionIn s) (spelled C s)) is)
+pub parts-entries-laid : (C : ℕ) (s : List ℕ) → positionCheck C (positionIn s) ≡ Clear → s ≡ entrySheet C (positionIn s) (spelled C s) → entriesLaid C s ≡ true
+unfolding entriesLaid
+parts-entries-laid C s at is = rw at (true-same s (entrySheet C (positionIn s) (spelled C s)) is)
 
-entry-keeps : (C p : ℕ) (B : List ℕ) → Sized C B → Words B → positionCheck C p ≡ Clear → keeps C (entrySheet C p B) ≡ true
-entry-keeps C p B s w at =
+entry-laid : (C p : ℕ) (B : List ℕ) → Sized C B → Words B → positionCheck C p ≡ Clear → entriesLaid C (entrySheet C p B) ≡ true
+entry-laid C p B s w at =
     let q = entry-position C p B s w at in
-    parts-kept C (entrySheet C p B) (rw q at)
+    parts-entries-laid C (entrySheet C p B) (rw q at)
     (rw (q, entry-leaves C p B s w at) (entry-taken C p B (take C B) (sym (take-all C (take C B) (omega (arith, length-take-le C B (s .long)))))))
 
 pub entries-exact : Exact pieceForm (λ C p. positionCheck C p ≡ Clear)
@@ -348,10 +338,10 @@ entries-exact = record {
   least = λ C B pos. omega arith;
   taken = entry-taken;
   capacity = λ C p B s w at. entry-capacity C p B s w at;
-  keeps = λ C p B s w at. entry-keeps C p B s w at;
+  keeps = λ C p B s w at. entry-laid C p B s w at;
   position = λ C p B s w at. entry-position C p B s w at;
   leaves = λ C p B s w at. entry-leaves C p B s w at;
-  only = λ C s bytes h. kept-parts C s h .1;
-  at = λ C s h. kept-parts C s h .0;
+  only = λ C s bytes h. entries-laid-parts C s h .1;
+  at = λ C s h. entries-laid-parts C s h .0;
   spelled = spelled-length;
 }

@@ -15,10 +15,9 @@ use Rattle.calls.specs.declared.Check.{Check}
 use Rattle.calls.specs.declared.Check.the-variants.{Clear, Refused}
 use Rattle.calls.proofs.Laws.{Sized, open-clear, open-sized}
 use Rattle.sheets.specs.declared.Saving.the-variants as saving
-use Rattle.sheets.specs.declared.Loading.the-variants as loading
 use Rattle.sheets.specs.Blocks.{Bytes, Words}
 use Rattle.sheets.specs.Sheet.{capacityIn}
-use Rattle.sheets.specs.Forms.{Form, sizeOf, savingBy, savingCheck, savedAs, savedOutputAs, readingCheck, loadingBy, loadedAs, loadedBoardAs}
+use Rattle.sheets.specs.Forms.{Form, sizeOf, savingBy, savingCheck, savedAs, savedOutputAs, readingCheck, loadedAs, loadedBoardAs}
 use Rattle.sheets.proofs.Checked.{good-check, check-good, Readable, read-clear, clear-read}
 
 -- A form is exact, and is saved at the positions At: its checks of save ask just for a board, a position and room; it spells what it is given; and
@@ -42,10 +41,6 @@ pub saving-done : (k : Check) (m n : ℕ) → savingBy k m ≡ saving.Done n →
 saving-done Clear m n e = (refl, cc)
 saving-done (Refused r) m n e = absurd (let z : _≡_ {A = ℕ} 0 1 = cc in omega arith)
 
-pub loading-done : (k : Check) → loadingBy k ≡ loading.Done → k ≡ Clear
-loading-done Clear e = refl
-loading-done (Refused r) e = absurd (let z : _≡_ {A = ℕ} 0 1 = cc in omega arith)
-
 module _ (F : Form) (At : ℕ → ℕ → Type 0) (x : Exact F At) where
   -- a sheet of a good board, lent a board with room
   module _ (C p : ℕ) (B L : List ℕ) (words : Words B) (sized : Sized C B) (sound : good C B ≡ true) (at : At C p) (room : C ≤ length L) where
@@ -60,14 +55,14 @@ module _ (F : Form) (At : ℕ → ℕ → Type 0) (x : Exact F At) where
           good = rw (q, leaves) (good-check C (take C B) (good-same C B (take C B) (λ i h. sym (getD-take C B i 0 h)) sound));
         }
 
-    pub sheet-reads : (loadedAs F (F .sheet C p B) L ≡ record { drive = driveAt C p; answer = loading.Done }) × (loadedBoardAs F (F .sheet C p B) L ≡ take C B ++ drop C L)
+    pub sheet-reads : (loadedAs F (F .sheet C p B) L ≡ record { drive = driveAt C p; answer = Clear }) × (loadedBoardAs F (F .sheet C p B) L ≡ take C B ++ drop C L)
     sheet-reads =
         rw (read-clear F (F .sheet C p B) L trip-readable, x .capacity C p B sized words at) (rw (x .position C p B sized words at) refl, rw (x .leaves C p B sized words at) refl)
 
   -- What save writes reads back as the same board, capacity and position. B is the board saved, of u16 leaves, O the output and L the board lent to read.
   module _ (d : Drive) (B O L : List ℕ) (n : ℕ) (words : Words B) (done : savedAs F d B O .answer ≡ saving.Done n) (room : d .capacity ≤ length L) where
     pub saved-reads-back :
-        (loadedAs F (take n (savedOutputAs F d B O)) L ≡ record { drive = driveAt (d .capacity) (d .position); answer = loading.Done })
+        (loadedAs F (take n (savedOutputAs F d B O)) L ≡ record { drive = driveAt (d .capacity) (d .position); answer = Clear })
         × (loadedBoardAs F (take n (savedOutputAs F d B O)) L ≡ take (d .capacity) B ++ drop (d .capacity) L)
     saved-reads-back =
         let C = d .capacity in
@@ -101,13 +96,12 @@ module _ (F : Form) (At : ℕ → ℕ → Type 0) (x : Exact F At) where
         (check-good C leaves (clear-read F s L accepted .good))
 
   -- Whatever bytes read accepts are the very bytes that save writes for the board and position that it sets. O is an output with room.
-  module _ (s L O : List ℕ) (bytes : Bytes s) (done : loadedAs F s L .answer ≡ loading.Done) (room : length s ≤ length O) where
+  module _ (s L O : List ℕ) (bytes : Bytes s) (done : loadedAs F s L .answer ≡ Clear) (room : length s ≤ length O) where
     pub only-such-sheets :
         (savedAs F (loadedAs F s L .drive) (loadedBoardAs F s L) O ≡ record { drive = loadedAs F s L .drive; answer = saving.Done (length s) })
         × (savedOutputAs F (loadedAs F s L .drive) (loadedBoardAs F s L) O ≡ s ++ drop (length s) O)
     only-such-sheets =
-        let accepted = loading-done (readingCheck F s L) done in
-        let r = clear-read F s L accepted in
+        let r = clear-read F s L done in
         let C = capacityIn s in
         let p = F .position s in
         let leaves = F .leaves C s in
@@ -118,6 +112,6 @@ module _ (F : Form) (At : ℕ → ℕ → Type 0) (x : Exact F At) where
         in
         let length-is : F .size C board ≡ length s = sym (x .long C p board) ∙ ap length same in
         let saves : savingCheck F (driveAt C p) board (length O) ≡ Clear =
-        x .lets C p board (length O) (accepted-sized s L accepted) (accepted-good s L accepted) (x .at C s (r .keeps)) (omega arith)
+        x .lets C p board (length O) (accepted-sized s L done) (accepted-good s L done) (x .at C s (r .keeps)) (omega arith)
         in
-        rw (accepted, saves, same, length-is) (refl, refl)
+        rw (done, saves, same, length-is) (refl, refl)

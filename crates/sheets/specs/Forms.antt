@@ -7,22 +7,19 @@ use mathlib.Core.List.{List, [], _∷_, _++_}
 use Prim.Native.Nat.{ℕ}
 use lib.Dec.{ltb}
 use lib.ListN.{length, drop}
-use Rattle.calls.specs.Records.{driveAt}
 use Rattle.calls.specs.Refusals.{Asked, refuseIf, firstOf, andThen, askedOutput, numberOf, openCheck, goodCheck}
-use Rattle.calls.specs.Answers.{Answer, answered}
-use Rattle.calls.specs.Results.{ifClear}
+use Rattle.calls.specs.Answers.{Answer, answered, checkAnswer}
+use Rattle.calls.specs.Results.{ifClear, setBy}
 use Rattle.calls.specs.declared.Drive.{Drive}
 use Rattle.calls.specs.declared.Refusal.{Refusal}
 use Rattle.calls.specs.declared.Refusal.the-variants.{Capacity, Short, Damaged, Output, Block}
 use Rattle.calls.specs.declared.Check.{Check}
 use Rattle.calls.specs.declared.Check.the-variants.{Clear, Refused}
+use Rattle.calls.specs.declared.Checked.{Checked}
 use Rattle.sheets.specs.Sheet.{capacityIn}
 use Rattle.sheets.specs.declared.Saved.{Saved}
 use Rattle.sheets.specs.declared.Saving.{Saving}
 use Rattle.sheets.specs.declared.Saving.the-variants as saving
-use Rattle.sheets.specs.declared.Loaded.{Loaded}
-use Rattle.sheets.specs.declared.Loading.{Loading}
-use Rattle.sheets.specs.declared.Loading.the-variants as loading
 
 -- A form of sheet: what save of it may refuse, in its order; the bytes for C, p and a board, and how many they are; and of some bytes, given
 -- their C, whether they keep its layout, and the position and the leaves that they hold.
@@ -34,23 +31,15 @@ pub record Form : Type 0 where
   pub position : List ℕ → ℕ
   pub leaves : ℕ → List ℕ → List ℕ
 
--- Document 01's number and values: save has one value, the bytes written; read has none.
+-- Document 01's number and values: save has one value, the bytes written.
 abbrev pub savingAnswer : Saving → Answer
 savingAnswer (saving.Done bytes) = record { number = 0; values = bytes ∷ [] }
 savingAnswer (saving.Refused r) = record { number = numberOf r; values = 0 ∷ [] }
 
-abbrev pub loadingAnswer : Loading → Answer
-loadingAnswer loading.Done = record { number = 0; values = [] }
-loadingAnswer (loading.Refused r) = record { number = numberOf r; values = [] }
-
--- The answers, by what the checks find.
+-- The answer of save, by what the checks find.
 abbrev pub savingBy : Check → ℕ → Saving
 savingBy Clear bytes = saving.Done bytes
 savingBy (Refused r) bytes = saving.Refused r
-
-abbrev pub loadingBy : Check → Loading
-loadingBy Clear = loading.Done
-loadingBy (Refused r) = loading.Refused r
 
 -- 11, of an output of n bytes where so many are needed.
 abbrev pub roomCheck : ℕ → ℕ → Check
@@ -94,27 +83,23 @@ abbrev pub readMay : List Refusal
 readMay = Capacity ∷ Short ∷ Damaged ∷ Block ∷ []
 
 -- Its first checks: under 512 bytes, 12; C of block 0 out of range, 1, or the lent board too short, 2, as open has them.
-unfoldable pub startCheck : List ℕ → List ℕ → Check
-startCheck s B = andThen (blockCheck (ltb (length s) 512)) (openCheck (capacityIn s) B)
+unfoldable pub headCheck : List ℕ → List ℕ → Check
+headCheck s B = andThen (blockCheck (ltb (length s) 512)) (openCheck (capacityIn s) B)
 
 -- The others, of what the sheet holds: anything wrong with length or layout, 12; its board not good, 5.
-abbrev pub heldCheck : Form → ℕ → List ℕ → Check
-heldCheck F C s = andThen (blockCheck (not (F .laid C s))) (goodCheck C (F .leaves C s))
+abbrev pub sheetCheck : Form → ℕ → List ℕ → Check
+sheetCheck F C s = andThen (blockCheck (not (F .laid C s))) (goodCheck C (F .leaves C s))
 
 -- read, in its own order.
 unfoldable pub readingCheck : Form → List ℕ → List ℕ → Check
-readingCheck F s B = andThen (startCheck s B) (heldCheck F (capacityIn s) s)
+readingCheck F s B = andThen (headCheck s B) (sheetCheck F (capacityIn s) s)
 
 -- the C leaves and p
-abbrev pub loadedAs : Form → List ℕ → List ℕ → Loaded
-loadedAs F s B =
-    record {
-      drive = ifClear (readingCheck F s B) (driveAt (capacityIn s) (F .position s)) (driveAt 0 0);
-      answer = loadingBy (readingCheck F s B);
-    }
+abbrev pub loadedAs : Form → List ℕ → List ℕ → Checked
+loadedAs F s B = setBy (readingCheck F s B) (capacityIn s) (F .position s)
 
 abbrev pub loadedAnswerAs : Form → List ℕ → List ℕ → Answer
-loadedAnswerAs F s B = answered (readingCheck F s B) []
+loadedAnswerAs F s B = checkAnswer (readingCheck F s B)
 
 abbrev pub loadedBoardAs : Form → List ℕ → List ℕ → List ℕ
 loadedBoardAs F s B =
@@ -123,4 +108,4 @@ loadedBoardAs F s B =
 
 -- The last part of read, where its first checks are clear: what the sheet holds is tested, and the lent board B is E then.
 abbrev pub Holds : Form → ℕ → List ℕ → List ℕ → Check → List ℕ → Type 0
-Holds F C s B r E = (r ≡ heldCheck F C s) × (E ≡ ifClear r (F .leaves C s ++ drop C B) B)
+Holds F C s B r E = (r ≡ sheetCheck F C s) × (E ≡ ifClear r (F .leaves C s ++ drop C B) B)

@@ -4,19 +4,17 @@ use mathlib.Core.List.{List, [], _∷_}
 use Prim.Native.Nat.{ℕ, _*_}
 use lib.ListN.{length}
 use Rattle.pieces.specs.Listing.{namedPieces}
-use Rattle.calls.specs.Records.{driveAt}
-use Rattle.calls.specs.Refusals.{firstOf, askedOutput}
 use Rattle.calls.specs.Answers.{Answer}
 use Rattle.calls.specs.declared.Drive.{Drive}
 use Rattle.calls.specs.declared.Refusal.{Refusal}
 use Rattle.calls.specs.declared.Refusal.the-variants.{Capacity, Short, Position, Midround, Damaged, Output}
 use Rattle.calls.specs.declared.Check.{Check}
+use Rattle.calls.specs.declared.Checked.{Checked}
 use Rattle.sheets.specs.Sheet.{blocks, sheet, sheetLeaves, laid}
-use Rattle.sheets.specs.Entries.{entryBlocks, entrySheet, positionIn, spelled, keeps}
-pub use Rattle.sheets.specs.Forms.{savingAnswer, loadingAnswer, savingBy, loadingBy, askedSheet, blockCheck, startCheck, readMay}
+use Rattle.sheets.specs.Entries.{entryBlocks, entrySheet, positionIn, spelled, entriesLaid}
+pub use Rattle.sheets.specs.Forms.{savingAnswer, savingBy, askedSheet, blockCheck, headCheck, readMay}
 use Rattle.sheets.specs.Forms.{Form, savingCheck, savedAs, savedAnswerAs, savedOutputAs, readingCheck, loadedAs, loadedAnswerAs, loadedBoardAs}
 use Rattle.sheets.specs.declared.Saved.{Saved}
-use Rattle.sheets.specs.declared.Loaded.{Loaded}
 
 -- ---- the leaf form: saved and read at p = 1 alone
 
@@ -36,11 +34,6 @@ leafForm = record {
 abbrev pub saveCheck : Drive → List ℕ → ℕ → Check
 saveCheck = savingCheck leafForm
 
--- What the last part of save's checks finds, of a capacity, a board and an output alone.
-unfoldable pub writtenCheck : ℕ → List ℕ → ℕ → Check
-unfolding firstOf
-writtenCheck C B n = firstOf (Damaged ∷ Output ∷ []) (askedOutput (driveAt C 1) B n (512 * blocks C))
-
 abbrev pub saved : Drive → List ℕ → List ℕ → Saved
 saved = savedAs leafForm
 
@@ -53,7 +46,7 @@ savedOutput = savedOutputAs leafForm
 abbrev pub readCheck : List ℕ → List ℕ → Check
 readCheck = readingCheck leafForm
 
-abbrev pub loaded : List ℕ → List ℕ → Loaded
+abbrev pub loaded : List ℕ → List ℕ → Checked
 loaded = loadedAs leafForm
 
 abbrev pub loadedAnswer : List ℕ → List ℕ → Answer
@@ -72,7 +65,7 @@ pieceForm = record {
   may = savePiecesMay;
   sheet = entrySheet;
   size = λ C B. 512 * entryBlocks (length (namedPieces C B));
-  laid = keeps;
+  laid = entriesLaid;
   position = positionIn;
   leaves = spelled;
 }

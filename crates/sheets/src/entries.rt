@@ -5,7 +5,8 @@ ghost use Prim.Native.Nat.{ℕ, _+_, _*_, _/_, _%_, _^_, _≤_, _<_};
 ghost use lib.Dec.{eqb};
 ghost use lib.ListN.{length, getD, drop, replicate};
 ghost use lib.Seq.{sets};
-ghost use Rattle.sheets.specs.Blocks.{every, bytesOf};
+ghost use Rattle.general.specs.Tests.{every, same};
+ghost use Rattle.sheets.specs.Blocks.{bytesOf};
 ghost use Rattle.sheets.specs.Entries as sheets;
 use crate::blocks;
 use crate::leaves;
@@ -15,7 +16,7 @@ use calls::Drive;
 // How many numbers of entries a block has: 84 times three.
 const PER_BLOCK: usize = 252;
 
-// The number of block 0.
+// The number of a piece sheet's block 0; block b has this and b.
 const FIRST: usize = 32768;
 
 // A list of no entries. The array is made here and nowhere else, so that no other proof computes it; so the bytes below.
@@ -78,9 +79,9 @@ fn next_entry(q: usize) -> usize
 }
 
 // Whether an entry can be read after others that end at a leaf.
-fn fits(c: usize, at: usize, x: usize, a: usize, l: usize) -> bool
+fn is_readable(c: usize, at: usize, x: usize, a: usize, l: usize) -> bool
     requires { ⌜ (c ≤ 4095) × (a < 65536) ⌝ }
-    ensures { λ r. ⌜ r ≡ sheets.fits c at x a l ⌝ }
+    ensures { λ r. ⌜ r ≡ sheets.readable c at x a l ⌝ }
 {
     if x == 0 {
         return false;
@@ -111,7 +112,7 @@ pub fn spell(sheet: &[u8], c: usize, board: &mut [u16])
         let x = blocks::number_at(sheet, q);
         let a = blocks::number_at(sheet, q + 1);
         let l = blocks::number_at(sheet, q + 2);
-        if fits(c, at, x, a, l) {
+        if is_readable(c, at, x, a, l) {
             let size = pieces::size_of(l);
             pieces::fill(board, a, size, x as u16);
             at = a + size;
@@ -126,7 +127,7 @@ pub fn spell(sheet: &[u8], c: usize, board: &mut [u16])
 // Whether bytes are the first of some others. Those that agree are counted, so that the compiler compares several at once.
 fn starts(sheet: &[u8], bytes: &[u8]) -> bool
     requires { ⌜ (length (now sheet) ≤ length (now bytes)) × (length (now bytes) ≤ 25088) ⌝ }
-    ensures { λ r. ⌜ r ≡ every (λ i. eqb (getD (now (sheet .entry)) i 0) (getD (now (bytes .entry)) i 0)) 0 (length (now (sheet .entry))) ⌝ }
+    ensures { λ r. ⌜ r ≡ every (λ i. eqb (getD (now (sheet .entry)) i 0) (getD (now (bytes .entry)) i 0)) (length (now (sheet .entry))) ⌝ }
 {
     let n = sheet.len();
     let mut k: u16 = 0;
@@ -143,7 +144,7 @@ fn starts(sheet: &[u8], bytes: &[u8]) -> bool
 // Whether bytes are the sheet of a board at p.
 fn is_sheet_of(sheet: &[u8], c: usize, p: usize, board: &[u16]) -> bool
     requires { ⌜ (c ≤ length (now board)) × (c ≤ 4095) × (p < 65536) ⌝ }
-    ensures { λ r. ⌜ r ≡ sheets.same (now (sheet .entry)) (sheets.entrySheet c p (now (board .entry))) ⌝ }
+    ensures { λ r. ⌜ r ≡ same (now (sheet .entry)) (sheets.entrySheet c p (now (board .entry))) ⌝ }
 {
     let mut list = no_list();
     let n = pieces::listing::list_pieces(board, c, &mut list);
@@ -158,7 +159,7 @@ fn is_sheet_of(sheet: &[u8], c: usize, p: usize, board: &[u16]) -> bool
 // Whether the bytes keep the layout of a sheet of c leaves, of which they spell the board.
 pub fn is_laid(sheet: &[u8], c: usize, board: &[u16]) -> bool
     requires { ⌜ (0 < c) × (c ≤ 4095) × (512 ≤ length (now sheet)) × (c ≤ length (now board)) × (now board ≡ sheets.spelled c (now sheet)) ⌝ }
-    ensures { λ r. ⌜ r ≡ sheets.keeps c (now (sheet .entry)) ⌝ }
+    ensures { λ r. ⌜ r ≡ sheets.entriesLaid c (now (sheet .entry)) ⌝ }
 {
     let p = blocks::number_at(sheet, 2);
     match Drive::new(c as u16, p as u16).check_slot(board) {

@@ -5,12 +5,15 @@ ghost use Prim.Native.Nat.{_*_, _≤_, _<_};
 ghost use lib.ListN.{length, drop, replicate};
 ghost use Rattle.calls.specs.Refusals.{goodCheck, slotCheck, andThen};
 ghost use Rattle.calls.specs.Results.{ifClear};
-ghost use Rattle.sheets.specs.Sheet.{blocks, sheetLeaves};
+ghost use Rattle.pieces.specs.Listing.{namedPieces};
+ghost use Rattle.sheets.specs.Sheet.{blocks, capacityIn, sheetLeaves};
+ghost use Rattle.sheets.specs.Entries.{entryBlocks};
 ghost use Rattle.sheets.specs.Forms.{Puts, Holds, readingCheck, loadedBoardAs};
-ghost use Rattle.sheets.specs.Results.{leafForm, pieceForm, startCheck, readCheck, loadedBoard, saveCheck, writtenCheck};
+ghost use Rattle.sheets.specs.Results.{leafForm, pieceForm, headCheck, readCheck, loadedBoard};
 ghost use Rattle.sheets.specs.Promises.{Saves, Loads, SavesPieces, LoadsPieces};
 ghost use Rattle.sheets.specs.Conversions.{ToPieces, ToLeaves};
 use calls::Check;
+use calls::Checked;
 use calls::Drive;
 use calls::Refusal;
 
@@ -29,27 +32,16 @@ pub struct Saved {
     pub answer: Saving,
 }
 
-// The answer of read.
-pub enum Loading {
-    Done,
-    Refused(Refusal),
-}
-
-pub struct Loaded {
-    pub drive: Drive,
-    pub answer: Loading,
-}
-
 // The leaves of an idle board. The array is made here and nowhere else, so that no other proof computes it.
-fn no_leaves() -> [u16; 4095]
+fn no_leaves() -> [u16; Drive::LARGEST]
     ensures { λ r. ⌜ r ≡ replicate 4095 0 ⌝ }
 {
-    [0u16; 4095]
+    [0u16; Drive::LARGEST]
 }
 
 // The refusal 5, of the leaves of a sheet that keeps its layout. They are read to entries that are not lent and tested there; where they pass, the
 // board gets them.
-fn load_leaves(sheet: &[u8], c: usize, board: &mut [u16]) -> Check
+fn hold_leaves(sheet: &[u8], c: usize, board: &mut [u16]) -> Check
     requires { ⌜ (c ≤ length (now board)) × (c ≤ 4095) × (512 * blocks c ≤ length (now sheet)) ⌝ }
     ensures { λ r. ⌜ (r ≡ goodCheck c (sheetLeaves c (now (sheet .entry)))) × (now (board .exit) ≡ ifClear r (sheetLeaves c (now (sheet .entry)) ++ drop c (now (board .entry))) (now (board .entry))) ⌝ }
 {
@@ -64,26 +56,34 @@ fn load_leaves(sheet: &[u8], c: usize, board: &mut [u16]) -> Check
     }
 }
 
+// C of block 0.
+pub fn capacity_of(sheet: &[u8]) -> usize
+    requires { ⌜ 512 ≤ length (now sheet) ⌝ }
+    ensures { λ r. ⌜ (r ≡ capacityIn (now (sheet .entry))) × (r < 65536) ⌝ }
+{
+    blocks::number_at(sheet, 1)
+}
+
 // The first refusals of read: under 512 bytes, 12; of C of block 0 and the lent board, 1 and 2.
-pub fn check_start(sheet: &[u8], board: &[u16]) -> Check
-    ensures { λ r. ⌜ r ≡ startCheck (now (sheet .entry)) (now (board .entry)) ⌝ }
+pub fn check_head(sheet: &[u8], board: &[u16]) -> Check
+    ensures { λ r. ⌜ r ≡ headCheck (now (sheet .entry)) (now (board .entry)) ⌝ }
 {
     if sheet.len() < 512 {
         return Check::Refused(Refusal::Block);
     }
-    calls::checks::check_open(blocks::number_at(sheet, 1), board)
+    calls::checks::check_open(capacity_of(sheet), board)
 }
 
 // The refusals of read, in its order. Where there is none, the board gets the leaves of the sheet.
-fn load(sheet: &[u8], board: &mut [u16]) -> Check
+fn load_leaves(sheet: &[u8], board: &mut [u16]) -> Check
     ensures { λ r. ⌜ (r ≡ readCheck (now (sheet .entry)) (now (board .entry))) × (now (board .exit) ≡ loadedBoard (now (sheet .entry)) (now (board .entry))) ⌝ }
 {
-    match check_start(sheet, board) {
+    match check_head(sheet, board) {
         Check::Refused(r) => Check::Refused(r),
         Check::Clear => {
-            let c = blocks::number_at(sheet, 1);
+            let c = capacity_of(sheet);
             if leaves::is_laid(sheet, c) {
-                load_leaves(sheet, c, board)
+                hold_leaves(sheet, c, board)
             } else {
                 Check::Refused(Refusal::Block)
             }
@@ -91,72 +91,57 @@ fn load(sheet: &[u8], board: &mut [u16]) -> Check
     }
 }
 
-// The refusals 5 and 11, of a board that is to be written and an output of so many bytes.
-fn check_written(board: &[u16], c: usize, output: usize) -> Check
-    requires { ⌜ (c ≤ length (now board)) × (c ≤ 4095) ⌝ }
-    ensures { λ r. ⌜ r ≡ writtenCheck c (now (board .entry)) output ⌝ }
+// How many bytes the sheet of c leaves has.
+pub fn leaf_bytes(c: usize) -> usize
+    requires { ⌜ c ≤ 4095 ⌝ }
+    ensures { λ r. ⌜ r ≡ 512 * blocks c ⌝ }
 {
-    if pieces::good(board, c) {
-        if output < 512 * leaves::block_count(c) {
-            Check::Refused(Refusal::Output)
-        } else {
-            Check::Clear
-        }
-    } else {
-        Check::Refused(Refusal::Damaged)
-    }
+    512 * leaves::block_count(c)
 }
 
-// The refusals 1 to 5 and 11, of an output of so many bytes.
-fn check_save(drive: Drive, board: &[u16], output: usize) -> Check
-    ensures { λ r. ⌜ r ≡ saveCheck drive (now (board .entry)) output ⌝ }
+// The refusal 11, and where there is none the sheet of a board's leaves, at the start of the output.
+pub fn put_leaves(board: &[u16], c: usize, output: &mut [u8]) -> Saving
+    requires { ⌜ (c ≤ length (now board)) × (c ≤ 4095) ⌝ }
+    ensures { λ r. ⌜ Puts leafForm c 1 (now (board .entry)) (now (output .entry)) r (now (output .exit)) ⌝ }
 {
-    match drive.check_slot(board) {
-        Check::Refused(r) => Check::Refused(r),
-        Check::Clear => {
-            if drive.position == 1 {
-                check_written(board, drive.capacity as usize, output)
-            } else {
-                Check::Refused(Refusal::Midround)
-            }
-        }
+    let size = leaf_bytes(c);
+    if output.len() < size {
+        return Saving::Refused(Refusal::Output);
     }
+    leaves::write_sheet(board, c, output);
+    Saving::Done(size)
 }
 
 // Saves a board: its sheet at the start of the output.
 pub fn save(drive: Drive, board: &[u16], output: &mut [u8]) -> Saved
     ensures { λ r. ⌜ Saves drive (now (board .entry)) (now (output .entry)) r (now (output .exit)) ⌝ }
 {
-    match check_save(drive, board, output.len()) {
+    match drive.check_change(board) {
         Check::Refused(r) => Saved {
             drive,
             answer: Saving::Refused(r),
         },
         Check::Clear => {
-            let c = drive.capacity as usize;
-            leaves::write_sheet(board, c, output);
-            Saved {
-                drive,
-                answer: Saving::Done(512 * leaves::block_count(c)),
-            }
+            let answer = put_leaves(board, drive.capacity as usize, output);
+            Saved { drive, answer }
         }
     }
 }
 
 // Reads a sheet: the leaves of a board, and a record at the start of a round.
-pub fn read(sheet: &[u8], board: &mut [u16]) -> Loaded
+pub fn read(sheet: &[u8], board: &mut [u16]) -> Checked
     ensures { λ r. ⌜ Loads (now (sheet .entry)) (now (board .entry)) r (now (board .exit)) ⌝ }
 {
-    match load(sheet, board) {
-        Check::Refused(r) => Loaded {
+    match load_leaves(sheet, board) {
+        Check::Refused(r) => Checked {
             drive: Drive::new(0, 0),
-            answer: Loading::Refused(r),
+            answer: Check::Refused(r),
         },
         Check::Clear => {
-            let c = blocks::number_at(sheet, 1);
-            Loaded {
+            let c = capacity_of(sheet);
+            Checked {
                 drive: Drive::new(c as u16, 1),
-                answer: Loading::Done,
+                answer: Check::Clear,
             }
         }
     }
@@ -180,8 +165,18 @@ fn check_standing(drive: Drive, board: &[u16]) -> Check
     }
 }
 
+// How many bytes the sheet of the pieces of c leaves has.
+pub fn piece_bytes(board: &[u16], c: usize) -> usize
+    requires { ⌜ (c ≤ length (now board)) × (c ≤ 4095) ⌝ }
+    ensures { λ r. ⌜ r ≡ 512 * entryBlocks (length (namedPieces c (now (board .entry)))) ⌝ }
+{
+    let mut list = entries::no_list();
+    let n = pieces::listing::list_pieces(board, c, &mut list);
+    512 * entries::block_count(n)
+}
+
 // The refusal 11, and where there is none the sheet of a board's pieces at p, at the start of the output.
-fn put_pieces(board: &[u16], c: usize, p: usize, output: &mut [u8]) -> Saving
+pub fn put_pieces(board: &[u16], c: usize, p: usize, output: &mut [u8]) -> Saving
     requires { ⌜ (c ≤ length (now board)) × (c ≤ 4095) × (p < 65536) ⌝ }
     ensures { λ r. ⌜ Puts pieceForm c p (now (board .entry)) (now (output .entry)) r (now (output .exit)) ⌝ }
 {
@@ -218,16 +213,16 @@ pub fn save_pieces(drive: Drive, board: &[u16], output: &mut [u8]) -> Saved
 
 // The refusals 12 and 5, of a sheet's layout and of the board that it spells. The board is spelled to entries that are not lent and tested there;
 // where it passes, the board that is lent gets it.
-fn load_entries(sheet: &[u8], c: usize, board: &mut [u16]) -> Check
+fn hold_entries(sheet: &[u8], c: usize, board: &mut [u16]) -> Check
     requires { ⌜ (0 < c) × (c ≤ 4095) × (512 ≤ length (now sheet)) × (c ≤ length (now board)) ⌝ }
     ensures { λ r. ⌜ Holds pieceForm c (now (sheet .entry)) (now (board .entry)) r (now (board .exit)) ⌝ }
 {
     let mut scratch = no_leaves();
-    let spelt = &mut scratch[..c];
-    entries::spell(sheet, c, spelt);
-    if entries::is_laid(sheet, c, spelt) {
-        if pieces::good(spelt, c) {
-            leaves::set_leaves(spelt, board);
+    let spelled = &mut scratch[..c];
+    entries::spell(sheet, c, spelled);
+    if entries::is_laid(sheet, c, spelled) {
+        if pieces::good(spelled, c) {
+            leaves::set_leaves(spelled, board);
             Check::Clear
         } else {
             Check::Refused(Refusal::Damaged)
@@ -241,27 +236,27 @@ fn load_entries(sheet: &[u8], c: usize, board: &mut [u16]) -> Check
 fn load_pieces(sheet: &[u8], board: &mut [u16]) -> Check
     ensures { λ r. ⌜ (r ≡ readingCheck pieceForm (now (sheet .entry)) (now (board .entry))) × (now (board .exit) ≡ loadedBoardAs pieceForm (now (sheet .entry)) (now (board .entry))) ⌝ }
 {
-    match check_start(sheet, board) {
+    match check_head(sheet, board) {
         Check::Refused(r) => Check::Refused(r),
-        Check::Clear => load_entries(sheet, blocks::number_at(sheet, 1), board),
+        Check::Clear => hold_entries(sheet, capacity_of(sheet), board),
     }
 }
 
 // Reads a sheet of pieces: the leaves of a board, and a record at the position saved.
-pub fn read_pieces(sheet: &[u8], board: &mut [u16]) -> Loaded
+pub fn read_pieces(sheet: &[u8], board: &mut [u16]) -> Checked
     ensures { λ r. ⌜ LoadsPieces (now (sheet .entry)) (now (board .entry)) r (now (board .exit)) ⌝ }
 {
     match load_pieces(sheet, board) {
-        Check::Refused(r) => Loaded {
+        Check::Refused(r) => Checked {
             drive: Drive::new(0, 0),
-            answer: Loading::Refused(r),
+            answer: Check::Refused(r),
         },
         Check::Clear => {
-            let c = blocks::number_at(sheet, 1);
+            let c = capacity_of(sheet);
             let p = blocks::number_at(sheet, 2);
-            Loaded {
+            Checked {
                 drive: Drive::new(c as u16, p as u16),
-                answer: Loading::Done,
+                answer: Check::Clear,
             }
         }
     }
@@ -269,27 +264,14 @@ pub fn read_pieces(sheet: &[u8], board: &mut [u16]) -> Loaded
 
 // ---- from one form to the other, by a board of 4,095 entries that is not lent
 
-// The refusal 11, and where there is none the sheet of a board's leaves, at the start of the output.
-fn put_leaves(board: &[u16], c: usize, output: &mut [u8]) -> Saving
-    requires { ⌜ (c ≤ length (now board)) × (c ≤ 4095) ⌝ }
-    ensures { λ r. ⌜ Puts leafForm c 1 (now (board .entry)) (now (output .entry)) r (now (output .exit)) ⌝ }
-{
-    let size = 512 * leaves::block_count(c);
-    if output.len() < size {
-        return Saving::Refused(Refusal::Output);
-    }
-    leaves::write_sheet(board, c, output);
-    Saving::Done(size)
-}
-
 // Writes a sheet of leaves as one of pieces, at p = 1.
 pub fn to_pieces(sheet: &[u8], output: &mut [u8]) -> Saving
     ensures { λ r. ⌜ ToPieces (now (sheet .entry)) (now (output .entry)) r (now (output .exit)) ⌝ }
 {
     let mut scratch = no_leaves();
-    match load(sheet, &mut scratch) {
+    match load_leaves(sheet, &mut scratch) {
         Check::Refused(r) => Saving::Refused(r),
-        Check::Clear => put_pieces(&scratch, blocks::number_at(sheet, 1), 1, output),
+        Check::Clear => put_pieces(&scratch, capacity_of(sheet), 1, output),
     }
 }
 
@@ -304,7 +286,7 @@ pub fn to_leaves(sheet: &[u8], output: &mut [u8]) -> Saving
             if blocks::number_at(sheet, 2) != 1 {
                 return Saving::Refused(Refusal::Midround);
             }
-            put_leaves(&scratch, blocks::number_at(sheet, 1), output)
+            put_leaves(&scratch, capacity_of(sheet), output)
         }
     }
 }

@@ -1,5 +1,4 @@
--- A turn in the request's own words, over the integers: an entry v is the deficit -v.
--- Assumes nothing.
+-- A turn in the request's own words, over the integers: an entry v is the deficit -v. Assumes nothing.
 use mathlib.Core.Path.{_≡_, sym, ap, _∙_}
 use Prim.Native.Nat.{ℕ, _+_, _-_, _≤_, _<_}
 use native.Mathlib.Omega.{arith}

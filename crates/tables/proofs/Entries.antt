@@ -1,24 +1,25 @@
--- Tables: entries written from the start on, and every entry of one that fits.
--- Assumes nothing.
+-- Tables: entries written from the start on, and every entry of one that fits. Assumes nothing.
 use mathlib.Core.Path.{_≡_, refl, ap, _∙_}
 use mathlib.Core.Bool.{Bool, true, false, _&&_, and-true}
 use mathlib.Core.List.{List, [], _∷_, map}
 use Prim.Native.Nat.{ℕ, zero, suc, _+_, _≤_, _<_}
-use native.Mathlib.Numerals.{add-one}
+use native.Mathlib.Nat.{zero-add}
 use native.Mathlib.Omega.{arith}
 use native.Mathlib.Decide.{decLt, ℕ-discrete}
 use lib.Dec.{eqb}
 use lib.ListN.{getD, set, length, length-set, List·getD-eq-default}
 use lib.Seq.{getD-set-same, getD-set-other, set-getD}
 use borrow.Author.Tests.{eq-eqb, ne-eqb, eqb-true, lt-ltb, le-ltb, ltb-true}
-use Rattle.general.proofs.Laws.{clash, both, by-bool}
+use Rattle.general.specs.Tests.{every, passing}
+use Rattle.general.proofs.Laws.{both, by-bool, every-elim, every-intro, passing-every}
 use Rattle.pieces.specs.Board.{weight, good}
+use Rattle.pieces.specs.Placing.{fill}
 use Rattle.pieces.proofs.Laws.{weight-le}
-use Rattle.tables.specs.Sharing.{heldFor, lowest, leads, every, allZero, rateFits, ratesFit, owedFits, owedFit, allOwedFit, fits}
+use Rattle.tables.specs.Sharing.{heldFor, lowest, leads, allZero, rateFits, ratesFit, owedFits, owedFit, allOwedFit, fits}
 use Rattle.tables.specs.Settling.{written, settledAt, settledTable, Alike}
-use Rattle.tables.specs.Looking.{sumOf, Skipped, passing}
+use Rattle.tables.specs.Looking.{sumFrom, Skipped}
 use Rattle.tables.proofs.Holding.{held-zero, held-some}
-use Rattle.tables.proofs.Leading.{leads-name, leads-yes, lowest-same}
+use Rattle.tables.proofs.LowestLeaves.{leads-name, leads-yes, lowest-same}
 
 -- ---- written
 
@@ -54,6 +55,12 @@ pub written-none : (f : ℕ → ℕ) (T : List ℕ) → T ≡ written f 0 T
 unfolding written
 written-none f T = refl
 
+-- Entries that are all 0.
+pub written-zeros : (T : List ℕ) (n : ℕ) → fill T 0 n 0 ≡ written (λ _. 0) n T
+unfolding fill written
+written-zeros T zero = refl
+written-zeros T (suc n) = rw (zero-add n, written-zeros T n) refl
+
 -- The same entries make the same table.
 pub written-same : (f g : ℕ → ℕ) (T : List ℕ) (n : ℕ) → ((i : ℕ) → i < n → f i ≡ g i) → written f n T ≡ written g n T
 unfolding written
@@ -66,80 +73,21 @@ unfolding written
 written-own f T zero h = refl
 written-own f T (suc n) h = rw (written-own f T n (λ i l. h i (omega arith)), h n (omega arith)) (set-getD T n 0)
 
--- ---- a test at every number
-
-module _ (f : ℕ → Bool) where
-  pub every-elim : (n i : ℕ) → every f n ≡ true → i < n → f i ≡ true
-  unfolding every
-  every-elim zero i t h = absurd (omega arith)
-  every-elim (suc n) i t h =
-      let b = both (every f n) (f n) t in
-      elim (ℕ-discrete i n) [
-        | yes r ↦ rw r (b .1)
-        | no r ↦ every-elim n i (b .0) (omega arith)
-      ]
-
-  pub every-intro : (n : ℕ) → ((i : ℕ) → i < n → f i ≡ true) → every f n ≡ true
-  unfolding every
-  every-intro zero h = refl
-  every-intro (suc n) h = rw (every-intro n (λ i l. h i (omega arith)), h n (omega arith)) refl
-
-  -- as a loop tests it
-  pub every-more : (n : ℕ) → every f n ≡ true → f n ≡ true → every f (suc n) ≡ true
-  unfolding every
-  every-more n a b = rw (a, b) refl
-
-  pub every-fails : (n i : ℕ) → i < n → f i ≡ false → every f n ≡ false
-  every-fails n i h e = by-bool (every f n) (λ t. clash (every-elim n i t h) e) (λ g. g)
-
-  -- told by how many numbers pass
-  passing-le : (n : ℕ) → passing f n ≤ n
-  unfolding passing
-  passing-le zero = omega arith
-  passing-le (suc n) = by-bool (f n) (λ t. rw t (omega (arith, passing-le n))) (λ g. rw g (omega (arith, passing-le n)))
-
-  passing-some : (n i : ℕ) → i < n → f i ≡ false → passing f n < n
-  unfolding passing
-  passing-some zero i l e = absurd (omega arith)
-  passing-some (suc n) i l e = elim (ℕ-discrete i n) [
-    | yes r ↦ rw (rw r at e) (omega (arith, passing-le n))
-    | no r ↦ by-bool (f n) (λ t. rw t (omega (arith, passing-some n i (omega arith) e))) (λ g. rw g (omega (arith, passing-le n)))
-  ]
-
-  passing-all : (n : ℕ) → every f n ≡ true → passing f n ≡ n
-  unfolding passing
-  passing-all zero t = refl
-  passing-all (suc n) t = rw (passing-all n (every-intro n (λ i l. every-elim (suc n) i t (omega arith))), every-elim (suc n) n t (omega arith)) (omega arith)
-
-  pub passing-every : (n : ℕ) → eqb (passing f n) n ≡ every f n
-  passing-every n = by-bool (every f n)
-      (λ t. rw t (eq-eqb (passing f n) n (passing-all n t)))
-      (λ g. rw g (ne-eqb (passing f n) n (λ e. clash (every-intro n (λ i l. by-bool (f i) (λ t. t) (λ h. absurd (omega (arith, passing-some n i l h))))) g)))
-
-  -- as a loop counts them
-  pub passing-hit : (n : ℕ) → f n ≡ true → passing f (n + 1) ≡ passing f n + 1
-  unfolding passing
-  passing-hit n t = rw (add-one n, t) refl
-
-  pub passing-miss : (n : ℕ) → f n ≡ false → passing f (n + 1) ≡ passing f n
-  unfolding passing
-  passing-miss n t = rw (add-one n, t) (omega arith)
-
 -- ---- entries that are skipped
 
-pub sum-zero : (T : List ℕ) (i n : ℕ) → sumOf T i n ≡ 0 → (k : ℕ) → i ≤ k → k < i + n → getD T k 0 ≡ 0
-unfolding sumOf
+pub sum-zero : (T : List ℕ) (i n : ℕ) → sumFrom T i n ≡ 0 → (k : ℕ) → i ≤ k → k < i + n → getD T k 0 ≡ 0
+unfolding sumFrom
 sum-zero T i zero e k p q = absurd (omega arith)
 sum-zero T i (suc n) e k p q = elim (ℕ-discrete k (i + n)) [
   | yes r ↦ rw r (omega arith)
   | no r ↦ sum-zero T i n (omega arith) k p (omega arith)
 ]
 
-pub sum-four : (T : List ℕ) (i : ℕ) → getD T i 0 + getD T (i + 1) 0 + getD T (i + 2) 0 + getD T (i + 3) 0 ≡ sumOf T i 4
-unfolding sumOf
+pub sum-four : (T : List ℕ) (i : ℕ) → getD T i 0 + getD T (i + 1) 0 + getD T (i + 2) 0 + getD T (i + 3) 0 ≡ sumFrom T i 4
+unfolding sumFrom
 sum-four T i = let z : i + 0 ≡ i = omega arith in rw z (omega arith)
 
-pub eight-zero : (T : List ℕ) (j a b : ℕ) → a ≡ sumOf T j 4 → b ≡ sumOf T (j + 4) 4 → a + b ≡ 0 → (k : ℕ) → j ≤ k → k < j + 8 → getD T k 0 ≡ 0
+pub eight-zero : (T : List ℕ) (j a b : ℕ) → a ≡ sumFrom T j 4 → b ≡ sumFrom T (j + 4) 4 → a + b ≡ 0 → (k : ℕ) → j ≤ k → k < j + 8 → getD T k 0 ≡ 0
 eight-zero T j a b e f z k p q = elim (decLt k (j + 4)) [
   | yes l ↦ sum-zero T j 4 (omega arith) k p l
   | no l ↦ sum-zero T (j + 4) 4 (omega arith) k (omega arith) (omega arith)

@@ -1,10 +1,9 @@
--- Boards worked by hand, computed from the definitions: what a near miss would give otherwise.
--- Assumes nothing.
+-- Boards worked by hand, computed from the definitions: what a near miss would give otherwise. Assumes nothing.
 use mathlib.Core.Path.{_≡_, refl}
 use mathlib.Core.Bool.{true, false}
 use mathlib.Core.List.{List, [], _∷_, map}
 use Prim.Native.Nat.{ℕ}
-use Rattle.sequences.specs.Board.{leafAt, servedFrom, nextFrom}
+use Rattle.sequences.specs.SlotOrder.{leafAt, servedFrom, nextFrom}
 use Rattle.sequences.specs.Serving.{leavesFrom}
 use Rattle.pieces.specs.Board.{sound, single, pieces, nth, whole, uniform, weight}
 use Rattle.pieces.specs.Placing.{fill, first}

@@ -1,5 +1,4 @@
--- R, and a stream's turns: after x of its leaves it was served x r / R times, rounded up.
--- Assumes nothing.
+-- R, and a stream's turns: after x of its leaves it was served x r / R times, rounded up. Assumes nothing.
 use mathlib.Core.Path.{_≡_, refl, sym, ap, _∙_}
 use mathlib.Core.Bool.{_||_, cond, or-true}
 use Prim.Native.Nat.{ℕ, zero, suc, _+_, _-_, _*_, _/_, _%_, _^_, _≤_, _<_}
@@ -10,7 +9,7 @@ use lib.Bits.{bitAnd, and-zero-r, and-le-l, and-block}
 use lib.Dec.{eqb, leb, ltb}
 use lib.Pow.{pow-pos, pow-mono, split}
 use borrow.Author.Tests.{eq-eqb, ne-eqb, lt-ltb, le-ltb, le-leb, lt-leb}
-use Rattle.sequences.specs.Board.{digits}
+use Rattle.sequences.specs.SlotOrder.{digits}
 use Rattle.sequences.proofs.Laws.{digits-lt, digits-le, digits-width, shift-exact}
 use Rattle.tables.specs.Sharing.{heldFor}
 use Rattle.tables.specs.Turns.{owedNext}

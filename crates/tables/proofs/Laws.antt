@@ -8,7 +8,7 @@ use native.Mathlib.Nat.{two-pow-succ}
 use native.Mathlib.Omega.{arith}
 use lib.Count.{ones, onesIn, ones-step}
 use lib.ListN.{getD, length}
-use Rattle.pieces.specs.Board.{good, weight, number}
+use Rattle.pieces.specs.Board.{good, weight, pieceCount}
 use Rattle.pieces.proofs.Laws.{pieces-ones}
 use Rattle.calls.specs.Spacing.{spacingIn}
 use Rattle.calls.proofs.Laws.{spacing-whole}
@@ -29,20 +29,20 @@ unfoldable pub use Rattle.tables.proofs.Holding.{owedFrom, servesFrom}
 pub use Rattle.tables.proofs.Holding.{owed-append, owed-range, owed-within, owed-rule, serves-ceiling, serves-whole}
 -- ---- the lowest leaf of a name
 
-pub use Rattle.tables.proofs.Leading.{lowest-le, lowest-at, lowest-name, lowest-held, lowest-is, lowest-absent, leads-name, leads-yes}
+pub use Rattle.tables.proofs.LowestLeaves.{lowest-le, lowest-at, lowest-name, lowest-held, lowest-is, lowest-absent, leads-name, leads-yes}
 pub use Rattle.tables.proofs.Powers.{power-lowest}
 -- ---- the one condition, its parts, and what is known where it holds
 
 pub use Rattle.tables.proofs.Entries.{zero-elim, zero-intro, Rated, rated-at, rates-intro, held-le, owed-elim, owed-intro, owed-none, owed-below, fits-parts, parts-fit, fits-two, fits-first, first-fits}
 -- It is kept when tables are cleared on a good board, when a weight is placed, when r is entered for a stream that was placed, on any good board on which each
 -- stream has its weight once the tables are settled, after a remove, and by a turn. The order of the deficit tables does not matter.
-pub use Rattle.tables.proofs.Keeping.{cleared-fits, placed-fits, over-fits, settled-fits, removed-fits, turn-fits, fits-swap}
+pub use Rattle.tables.proofs.StaysFitting.{cleared-fits, placed-fits, over-fits, settled-fits, removed-fits, turn-fits, fits-swap}
 -- Where a stream was just placed there is no r yet, and no deficit.
-pub use Rattle.tables.proofs.Keeping.{new-below, new-name, new-rate, new-owed}
+pub use Rattle.tables.proofs.StaysFitting.{new-below, new-name, new-rate, new-owed}
 -- ---- what a table has after it was written: its length, the entries beyond C, and each stream's own
 
 pub use Rattle.tables.proofs.Entries.{settled-length, settled-beyond, settled-from, settled-some, settled-same, settled-told}
-pub use Rattle.tables.proofs.Keeping.{cleared-length, cleared-zero, cleared-beyond, settled-moves, rated-length, rated-beyond, turn-length, turn-other, turn-none, turn-own}
+pub use Rattle.tables.proofs.StaysFitting.{cleared-length, cleared-zero, cleared-beyond, settled-moves, rated-length, rated-beyond, turn-length, turn-other, turn-none, turn-own}
 -- ---- turns at leaves one after the other: one more, from other tables with the same first C entries, and how often they serve a stream
 
 pub use Rattle.tables.proofs.Turning.{owed-more, names-more, names-length, names-same, round-length}
@@ -66,7 +66,7 @@ ones-power (suc m) =
     omega (arith, ones-step (2 ^ suc m), two-pow-succ m, ap ones half, ones-power m)
 
 -- An over-allocated stream has one piece.
-pub one-piece : (C : ℕ) (B T : List ℕ) (i : ℕ) → C ≤ 4095 → good C B ≡ true → ratesFit C B T ≡ true → i < C → (getD T i 0 ≡ 0 → ⊥) → number C B (getD B i 0) ≡ 1
+pub one-piece : (C : ℕ) (B T : List ℕ) (i : ℕ) → C ≤ 4095 → good C B ≡ true → ratesFit C B T ≡ true → i < C → (getD T i 0 ≡ 0 → ⊥) → pieceCount C B (getD B i 0) ≡ 1
 one-piece C B T i few sound fit h n =
     let r = entries.rated-at C B T fit i h n in
     let p = holding.held-power (getD T i 0) (omega arith) in

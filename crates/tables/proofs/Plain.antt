@@ -1,5 +1,4 @@
--- Without over-allocated streams: tables of zeros fit just the good boards, stay as they are, and turns are the plain slots.
--- Assumes nothing.
+-- Without over-allocated streams: tables of zeros fit just the good boards, stay as they are, and turns are the plain slots. Assumes nothing.
 use mathlib.Core.Path.{_≡_, refl, sym, _∙_}
 use mathlib.Core.Bool.{and-true}
 use mathlib.Core.List.{List, [], _∷_}
@@ -9,15 +8,15 @@ use native.Mathlib.Decide.{decLt}
 use lib.ListN.{getD, replicate}
 use borrow.Author.Tests.{lt-ltb, le-ltb}
 use Rattle.general.proofs.Laws.{by-bool}
-use Rattle.sequences.specs.Board.{Position}
+use Rattle.sequences.specs.SlotOrder.{Position}
 use Rattle.pieces.specs.Board.{weight, good}
 use Rattle.calls.specs.Results.{slotNames, roundNames}
 use Rattle.tables.specs.Sharing.{lowest, leads, fits}
 use Rattle.tables.specs.Settling.{clearedTable, settledAt, settledTable}
 use Rattle.tables.specs.Turns.{roundServes, servedWeight}
-use Rattle.tables.proofs.Leading.{lowest-held}
+use Rattle.tables.proofs.LowestLeaves.{lowest-held}
 use Rattle.tables.proofs.Entries.{written-own, fits-two}
-use Rattle.tables.proofs.Keeping.{zero-owed, zero-rates}
+use Rattle.tables.proofs.StaysFitting.{zero-owed, zero-rates}
 use Rattle.tables.proofs.Turning.{plain-names}
 use Rattle.tables.proofs.Serves.{served-plain}
 

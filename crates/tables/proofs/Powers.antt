@@ -14,7 +14,7 @@ use Rattle.pieces.specs.Literal.{RunOf}
 use Rattle.pieces.proofs.Laws.{digit-piece}
 use Rattle.calls.proofs.Laws.{leaf-held}
 use Rattle.tables.specs.Sharing.{lowest}
-use Rattle.tables.proofs.Leading.{weight-hit, weight-miss, lowest-is}
+use Rattle.tables.proofs.LowestLeaves.{weight-hit, weight-miss, lowest-is}
 
 module _ (B : List ℕ) (x : ℕ) where
   -- A run of n leaves of the name.

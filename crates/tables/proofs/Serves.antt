@@ -1,5 +1,4 @@
--- How often a stream is served at its leaves, told leaf by leaf, and in a round.
--- Assumes nothing.
+-- How often a stream is served at its leaves, told leaf by leaf, and in a round. Assumes nothing.
 use mathlib.Core.Path.{_≡_, refl, sym, ap, _∙_}
 use mathlib.Core.Bool.{true, false, cond}
 use mathlib.Core.List.{List, [], _∷_}
@@ -17,9 +16,9 @@ use Rattle.calls.proofs.Laws.{leaves-times}
 use Rattle.tables.specs.Sharing.{heldFor, lowest, ratesFit}
 use Rattle.tables.specs.Turns.{owedNext, turnName, nameAt, owedAt, namesAlong, owedAlong, roundServes, servedWeight}
 use Rattle.tables.proofs.Holding.{owedFrom, servesFrom, held-some, serves-ceiling, serves-whole}
-use Rattle.tables.proofs.Leading.{lowest-name, lowest-held}
+use Rattle.tables.proofs.LowestLeaves.{lowest-name, lowest-held}
 use Rattle.tables.proofs.Entries.{Rated, rated-at}
-use Rattle.tables.proofs.Keeping.{turn-length, turn-other, turn-own}
+use Rattle.tables.proofs.StaysFitting.{turn-length, turn-other, turn-own}
 
 -- ---- at any leaves
 

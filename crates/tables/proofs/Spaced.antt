@@ -1,5 +1,4 @@
--- The spacing of a name over a list of names, told entry by entry.
--- Assumes nothing.
+-- The spacing of a name over a list of names, told entry by entry. Assumes nothing.
 use mathlib.Core.Path.{_≡_, _∙_}
 use mathlib.Core.List.{List, _++_}
 use Prim.Native.Nat.{ℕ, suc, _≤_, _<_}

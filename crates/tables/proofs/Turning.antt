@@ -1,5 +1,4 @@
--- Turns: the leaf that decides one, and turns at leaves one after the other, as a round takes them.
--- Assumes nothing.
+-- Turns: the leaf that decides one, and turns at leaves one after the other, as a round takes them. Assumes nothing.
 use mathlib.Core.Path.{_≡_, refl, sym, ap, ap₂, _∙_}
 use mathlib.Core.Bool.{true, false, not, _&&_}
 use mathlib.Core.List.{List, [], _∷_, _++_, map, append-assoc}
@@ -15,7 +14,7 @@ use lib.Pow.{pow-mono, split}
 use lib.Seq.{drop-cons, set-at}
 use borrow.Author.Tests.{eq-eqb, ne-eqb, eqb-true}
 use Rattle.general.proofs.Laws.{clash, both}
-use Rattle.sequences.specs.Board.{leafAt, servedFrom, nextFrom, Position}
+use Rattle.sequences.specs.SlotOrder.{leafAt, servedFrom, nextFrom, Position}
 use Rattle.sequences.specs.Serving.{leavesFrom, afterSlots}
 use Rattle.sequences.proofs.Laws.{leaf-below, next-position, leaves-length, leaves-more}
 use Rattle.pieces.specs.Board.{weight}
@@ -24,10 +23,10 @@ use Rattle.tables.specs.Sharing.{heldFor, lowest}
 use Rattle.tables.specs.Turns.{turnName, turnOwed, nameAt, owedAt, namesAlong, owedAlong, roundServes, Shared}
 use Rattle.tables.specs.Looking.{Decides}
 use Rattle.tables.proofs.Holding.{held-power}
-use Rattle.tables.proofs.Leading.{lowest-name, lowest-at}
+use Rattle.tables.proofs.LowestLeaves.{lowest-name, lowest-at}
 use Rattle.tables.proofs.Powers.{power-lowest}
 use Rattle.tables.proofs.Entries.{rated-at, held-le}
-use Rattle.tables.proofs.Keeping.{turn-length, turn-other, turn-none, turn-own}
+use Rattle.tables.proofs.StaysFitting.{turn-length, turn-other, turn-none, turn-own}
 
 -- ---- the leaf that decides a turn
 

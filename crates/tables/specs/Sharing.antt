@@ -7,7 +7,8 @@ use mathlib.Core.List.{List, [], _∷_}
 use Prim.Native.Nat.{ℕ, zero, suc, _^_}
 use lib.Dec.{eqb, ltb}
 use lib.ListN.{getD}
-use Rattle.sequences.specs.Board.{digits}
+use Rattle.general.specs.Tests.{every}
+use Rattle.sequences.specs.SlotOrder.{digits}
 use Rattle.pieces.specs.Board.{weight, good}
 use Rattle.pieces.specs.Placing.{first}
 
@@ -26,11 +27,6 @@ lowest C B x = first (λ i. eqb (getD B i 0) x) 0 C
 unfoldable pub leads : ℕ → List ℕ → ℕ → Bool
 unfolding lowest
 leads C B i = not (eqb (getD B i 0) 0) && eqb (lowest C B (getD B i 0)) i
-
--- f holds at every number below n.
-unfoldable pub every : (ℕ → Bool) → ℕ → Bool
-every f zero = true
-every f (suc n) = every f n && f n
 
 -- The first n entries of a table are 0. Of rates: no over-allocated stream is held.
 unfoldable pub allZero : ℕ → List ℕ → Bool

@@ -5,7 +5,7 @@ ghost use mathlib.Core.List.{[], _∷_};
 ghost use Prim.Native.Nat.{ℕ, _+_, _-_, _≤_, _<_};
 ghost use lib.Dec.{eqb, ltb};
 ghost use lib.ListN.{length};
-ghost use Rattle.names.specs.Table.{Table, numberOf};
+ghost use Rattle.names.specs.Table.{Table, numberUnder};
 ghost use Rattle.pieces.specs.Board.{good, weight};
 ghost use Rattle.tables.specs.Sharing as sharing;
 ghost use Rattle.tables.specs.Looking as looking;
@@ -15,7 +15,7 @@ ghost use Rattle.tables.specs.Looking as looking;
 // The sum of four entries in a row.
 fn four(table: &[u16], i: usize) -> u32
     requires { ⌜ (i + 4 ≤ length (now table)) × (i ≤ 4095) ⌝ }
-    ensures { λ r. ⌜ (r ≡ looking.sumOf (now (table .entry)) i 4) × (r ≤ 262140) ⌝ }
+    ensures { λ r. ⌜ (r ≡ looking.sumFrom (now (table .entry)) i 4) × (r ≤ 262140) ⌝ }
 {
     table[i] as u32 + table[i + 1] as u32 + table[i + 2] as u32 + table[i + 3] as u32
 }
@@ -36,7 +36,7 @@ fn skip_eights(table: &[u16], c: usize, i: usize) -> usize
 }
 
 // The next entry, from i on, that is not 0; c where there is none.
-fn next_entry(table: &[u16], c: usize, i: usize) -> usize
+fn next_nonzero(table: &[u16], c: usize, i: usize) -> usize
     requires { ⌜ (i ≤ c) × (c ≤ length (now table)) × (c ≤ 4095) ⌝ }
     ensures { λ r. ⌜ looking.Skipped c (now (table .entry)) i r ⌝ }
 {
@@ -73,15 +73,15 @@ fn rate_fits(x: usize, r: usize, i: usize, sizes: &[u16]) -> bool
 
 // Whether every r fits, by the weights of the names.
 fn rates_fit(board: &[u16], c: usize, rates: &[u16], sizes: &[u16]) -> bool
-    requires { ⌜ (c ≤ length (now board)) × (c ≤ length (now rates)) × (c ≤ 4095) × Table (now sizes) × (good c (now board) ≡ true) × ((x : ℕ) → x < 65536 → numberOf (now sizes) x ≡ weight c (now board) x) ⌝ }
+    requires { ⌜ (c ≤ length (now board)) × (c ≤ length (now rates)) × (c ≤ 4095) × Table (now sizes) × (good c (now board) ≡ true) × ((x : ℕ) → x < 65536 → numberUnder (now sizes) x ≡ weight c (now board) x) ⌝ }
     ensures { λ r. ⌜ r ≡ sharing.ratesFit c (now (board .entry)) (now (rates .entry)) ⌝ }
 {
-    let mut i = next_entry(rates, c, 0);
+    let mut i = next_nonzero(rates, c, 0);
     while i < c {
         if !rate_fits(board[i] as usize, rates[i] as usize, i, sizes) {
             return false;
         }
-        i = next_entry(rates, c, i + 1);
+        i = next_nonzero(rates, c, i + 1);
     }
     true
 }

@@ -51,11 +51,7 @@ pub fn clear_table(table: &mut [u16], c: usize)
     requires { ⌜ (c ≤ length (now table)) × (c ≤ 4095) ⌝ }
     ensures { λ _. ⌜ now (table .exit) ≡ settled.clearedTable c (now (table .entry)) ⌝ }
 {
-    let mut i: usize = 0;
-    while i < c {
-        table[i] = 0;
-        i += 1;
-    }
+    pieces::fill(table, 0, c, 0);
 }
 
 // Enters r for a name that the board holds.
@@ -80,7 +76,7 @@ pub fn weight_served(board: &[u16], c: usize, rates: &[u16], name: u16) -> usize
     r
 }
 
-// Entries for every leaf. The array is made here and nowhere else, so that no other proof computes it.
+// A table of zeros, with an entry for every leaf. The array is made here and nowhere else, so that no other proof computes it.
 fn no_entries() -> [u16; 4096]
     ensures { λ r. ⌜ r ≡ replicate 4096 0 ⌝ }
 {

@@ -5,19 +5,19 @@ ghost use mathlib.Core.Bool.{_&&_, cond};
 ghost use Prim.Native.Nat.{ℕ, _+_, _≤_, _<_};
 ghost use lib.Dec.{eqb};
 ghost use lib.ListN.{getD, length};
-ghost use Rattle.names.specs.Table.{Table, Empty, Entered, taken, numberOf};
+ghost use Rattle.names.specs.Table.{Table, Empty, Entered, rowsTaken, numberUnder};
 ghost use Rattle.tables.specs.Sharing as sharing;
 ghost use Rattle.tables.specs.Settling as settled;
 ghost use Rattle.tables.specs.Looking as looking;
 
 // Marks the name x with the leaf i, unless it is marked.
 fn mark_leaf(marks: &mut [u16], x: usize, i: usize)
-    requires { ⌜ (x < 65536) × (i < 4095) × Table (now marks) × (taken (now marks) < 4096) ⌝ }
-    ensures { λ _. ⌜ Entered (now (marks .entry)) (now (marks .exit)) x (cond (eqb (numberOf (now (marks .entry)) x) 0) (i + 1) (numberOf (now (marks .entry)) x)) ⌝ }
+    requires { ⌜ (x < 65536) × (i < 4095) × Table (now marks) × (rowsTaken (now marks) < 4096) ⌝ }
+    ensures { λ _. ⌜ Entered (now (marks .entry)) (now (marks .exit)) x (cond (eqb (numberUnder (now (marks .entry)) x) 0) (i + 1) (numberUnder (now (marks .entry)) x)) ⌝ }
 {
     let mark = names::find(marks, x);
     if mark.number == 0 {
-        names::enter(marks, x, mark.place, i + 1);
+        names::enter(marks, x, mark.row, i + 1);
     }
 }
 
@@ -36,14 +36,14 @@ fn mark_leaves(board: &[u16], c: usize, marks: &mut [u16])
 // The mark of a name, which is met then.
 fn take_mark(marks: &mut [u16], x: usize) -> u16
     requires { ⌜ (x < 65536) × Table (now marks) ⌝ }
-    ensures { λ r. ⌜ (r ≡ numberOf (now (marks .entry)) x) × Entered (now (marks .entry)) (now (marks .exit)) x 0 ⌝ }
+    ensures { λ r. ⌜ (r ≡ numberUnder (now (marks .entry)) x) × Entered (now (marks .entry)) (now (marks .exit)) x 0 ⌝ }
 {
     let mark = names::find(marks, x);
     let m = mark.number as u16;
     if m == 0 {
         return 0;
     }
-    names::enter(marks, x, mark.place, 0);
+    names::enter(marks, x, mark.row, 0);
     m
 }
 
@@ -85,7 +85,7 @@ fn copy_table(table: &[u16], c: usize, to: &mut [u16])
 // The entry of a table that a mark leads to.
 fn fetch_entry(table: &[u16], o: usize) -> u16
     requires { ⌜ (o ≤ length (now table)) × (o ≤ 4095) ⌝ }
-    ensures { λ r. ⌜ r ≡ looking.fetched (now (table .entry)) o ⌝ }
+    ensures { λ r. ⌜ r ≡ looking.markedEntry (now (table .entry)) o ⌝ }
 {
     if o == 0 {
         return 0;
@@ -96,7 +96,7 @@ fn fetch_entry(table: &[u16], o: usize) -> u16
 // Gives each of the first c entries of a table what its mark leads to in another.
 fn place_entries(table: &mut [u16], c: usize, from: &[u16], old: &[u16])
     requires { ⌜ (c ≤ length (now table)) × (c ≤ length (now from)) × (c ≤ length (now old)) × (c ≤ 4095) × ((i : ℕ) → i < c → getD (now from) i 0 ≤ c) ⌝ }
-    ensures { λ _. ⌜ now (table .exit) ≡ settled.written (λ i. looking.fetched (now (old .entry)) (getD (now (from .entry)) i 0)) c (now (table .entry)) ⌝ }
+    ensures { λ _. ⌜ now (table .exit) ≡ settled.written (λ i. looking.markedEntry (now (old .entry)) (getD (now (from .entry)) i 0)) c (now (table .entry)) ⌝ }
 {
     let mut i: usize = 0;
     while i < c {
@@ -108,7 +108,7 @@ fn place_entries(table: &mut [u16], c: usize, from: &[u16], old: &[u16])
 // Settles one table: each of its first c entries becomes what its mark leads to in the table as it was. Entries that are all 0 stay so.
 fn settle(table: &mut [u16], c: usize, from: &[u16])
     requires { ⌜ (c ≤ length (now table)) × (c ≤ length (now from)) × (c ≤ 4095) × ((i : ℕ) → i < c → getD (now from) i 0 ≤ c) ⌝ }
-    ensures { λ _. ⌜ now (table .exit) ≡ settled.written (λ i. looking.fetched (now (table .entry)) (getD (now (from .entry)) i 0)) c (now (table .entry)) ⌝ }
+    ensures { λ _. ⌜ now (table .exit) ≡ settled.written (λ i. looking.markedEntry (now (table .entry)) (getD (now (from .entry)) i 0)) c (now (table .entry)) ⌝ }
 {
     if crate::all_zero(table, c) {
         return;
@@ -119,13 +119,13 @@ fn settle(table: &mut [u16], c: usize, from: &[u16])
 }
 
 // Whether three tables have no entry that is not 0.
-fn none(c: usize, rates: &[u16], owed: &[u16], also: &[u16]) -> bool
-    requires { ⌜ (c ≤ length (now rates)) × (c ≤ length (now owed)) × (c ≤ length (now also)) × (c ≤ 4095) ⌝ }
-    ensures { λ r. ⌜ r ≡ (sharing.allZero c (now (rates .entry)) && (sharing.allZero c (now (owed .entry)) && sharing.allZero c (now (also .entry)))) ⌝ }
+fn all_three_zero(c: usize, rates: &[u16], owed: &[u16], owed_other: &[u16]) -> bool
+    requires { ⌜ (c ≤ length (now rates)) × (c ≤ length (now owed)) × (c ≤ length (now «owed_other»)) × (c ≤ 4095) ⌝ }
+    ensures { λ r. ⌜ r ≡ (sharing.allZero c (now (rates .entry)) && (sharing.allZero c (now (owed .entry)) && sharing.allZero c (now («owed_other» .entry)))) ⌝ }
 {
     if crate::all_zero(rates, c) {
         if crate::all_zero(owed, c) {
-            return crate::all_zero(also, c);
+            return crate::all_zero(owed_other, c);
         }
     }
     false
@@ -153,7 +153,7 @@ pub fn settle_tables(
     requires { ⌜ (c ≤ length (now old)) × (c ≤ length (now board)) × (c ≤ 4095) × (c ≤ length (now rates)) × (c ≤ length (now owed)) × (c ≤ length (now «owed_other»)) ⌝ }
     ensures { λ _. ⌜ (now (rates .exit) ≡ settled.settledTable c (now (old .entry)) (now (board .entry)) (now (rates .entry))) × (now (owed .exit) ≡ settled.settledTable c (now (old .entry)) (now (board .entry)) (now (owed .entry))) × (now («owed_other» .exit) ≡ settled.settledTable c (now (old .entry)) (now (board .entry)) (now («owed_other» .entry))) ⌝ }
 {
-    if none(c, rates, owed, owed_other) {
+    if all_three_zero(c, rates, owed, owed_other) {
         return;
     }
     let mut from = crate::no_entries();

@@ -5,7 +5,7 @@ ghost use mathlib.Core.List.{_++_};
 ghost use Prim.Native.Nat.{_≤_, _<_};
 ghost use lib.Dec.{eqb};
 ghost use lib.ListN.{getD, length, take, drop};
-ghost use Rattle.sequences.specs.Board.{Position};
+ghost use Rattle.sequences.specs.SlotOrder.{Position};
 ghost use Rattle.sequences.specs.Serving.{countList, leavesFrom};
 ghost use Rattle.pieces.specs.Board.{weight};
 ghost use Rattle.calls.specs.Spacing.{spacingIn};

@@ -1,5 +1,4 @@
--- What the code of a walk goes by: one step of it, where it ends for any marks, and what no refusal says.
--- Assumes nothing.
+-- What the code of a walk goes by: one step of it, where it ends for any marks, and what no refusal says. Assumes nothing.
 use mathlib.Core.Path.{_≡_, refl}
 use mathlib.Core.Bool.{Bool, true, false, _||_, cond}
 use mathlib.Core.List.{List}

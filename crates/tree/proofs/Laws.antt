@@ -15,7 +15,7 @@ use lib.Seq.{ext-getD}
 use borrow.Author.Tests.{ne-eqb, le-ltb}
 use Rattle.general.proofs.Laws.{unique, by-bool}
 use Rattle.sequences.specs.Sequences.{rb}
-use Rattle.sequences.specs.Board.{digits, Position, leafAt, servedFrom, nextFrom}
+use Rattle.sequences.specs.SlotOrder.{digits, Position, leafAt, servedFrom, nextFrom}
 use Rattle.sequences.specs.Serving.{leavesFrom, afterSlots}
 use Rattle.sequences.proofs.Laws.{power-leaf, power-next, first-position, next-position, leaves-at}
 use Rattle.calls.specs.declared.Drive.{Drive}
@@ -164,8 +164,7 @@ module _ (C : ℕ) (B M : List ℕ) where
   -- It answers 0, or 1, 16 or 2.
   pub walk-answers : zeroOr (numberBy (finds C B M)) walkMay ≡ true
   unfolding finding zeroOr
-  walk-answers =
-      by-bool (applies Capacity (askedOpen C B))
+  walk-answers = by-bool (applies Capacity (askedOpen C B))
       (λ t. rw t refl)
       (λ f. by-bool (ltb 1 (ones C))
       (λ t. rw (f, t) refl)

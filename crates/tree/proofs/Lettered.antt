@@ -1,5 +1,4 @@
--- The walk by node numbers is the walk in source document 001's own words.
--- Assumes nothing.
+-- The walk by node numbers is the walk in source document 001's own words. Assumes nothing.
 use mathlib.Core.Path.{_≡_, refl}
 use mathlib.Core.List.{List}
 use Prim.Native.Nat.{ℕ, zero, suc, _+_}

@@ -1,5 +1,4 @@
--- The nodes of a subtree: node j is e levels below node i where 2 ^ e (i + 1) ≤ j + 1 < 2 ^ e (i + 2).
--- Assumes nothing.
+-- The nodes of a subtree: node j is e levels below node i where 2 ^ e (i + 1) ≤ j + 1 < 2 ^ e (i + 2). Assumes nothing.
 use mathlib.Core.Path.{_≡_}
 use Prim.Native.Nat.{ℕ, zero, suc, _+_, _*_, _^_, _≤_, _<_}
 use native.Mathlib.Nat.{mul-le-mul-right, pow-suc}

@@ -1,5 +1,4 @@
--- A number with at most one set digit is a power of two.
--- Assumes nothing.
+-- A number with at most one set digit is a power of two. Assumes nothing.
 use mathlib.Core.Path.{_≡_, refl}
 use Prim.Native.Nat.{ℕ, zero, suc, _+_, _/_, _%_, _^_, _≤_, _<_}
 use native.Mathlib.Decide.{decLt}

@@ -1,6 +1,5 @@
 -- The marks of a subtree after t visits of its root: the root's mark is t % 2, the left half has had (t + 1) / 2 of them and the right half t / 2. One walk
--- more makes that t + 1, and ends at the leaf RB(t, d) of the subtree, which is RB's own recursion.
--- Assumes nothing.
+-- more makes that t + 1, and ends at the leaf RB(t, d) of the subtree, which is RB's own recursion. Assumes nothing.
 use mathlib.Core.Path.{_≡_, refl, sym, _∙_, subst}
 use mathlib.Core.Bool.{true}
 use mathlib.Core.List.{List}

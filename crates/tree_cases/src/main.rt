@@ -1,10 +1,19 @@
-// Both engines side by side, for the bench: for each power of two three rounds, slot by slot, by the sequences from p = 1 and by the tree walk from clear marks.
+// Both engines side by side: for each power of two three rounds, slot by slot, by the sequences from p = 1 and by the tree walk from clear marks.
 // Then walks by marks that no round leaves, and refusals. Run, and not proved; the expected output was worked out from documents 01 and 02 and from source
 // document 001, figure 2.
 ghost use Prim.Native.Nat.{_≤_};
 use calls::Drive;
 use calls::Serving;
-use libc::STDOUT_FILENO;
+use telling::end_line;
+use telling::reading::count_at;
+use telling::reading::number_at;
+use telling::say;
+use telling::say_after;
+use telling::say_entries;
+use telling::say_entry;
+use telling::stores::count;
+use telling::stores::with_entry;
+use telling::stores::within;
 use tree::Walking;
 
 const ROUNDS: usize = 3;
@@ -31,22 +40,6 @@ struct Score {
     order: u64,
 }
 
-// A word, and a number after it.
-fn say(word: &[u8], n: u64) {
-    io::write_all(STDOUT_FILENO, word);
-    io::print_decimal(STDOUT_FILENO, n);
-}
-
-fn end_line() {
-    io::write_all(STDOUT_FILENO, b"\n");
-}
-
-fn least(a: usize, b: usize) -> usize
-    ensures { λ r. ⌜ r ≤ b ⌝ }
-{
-    if a < b { a } else { b }
-}
-
 // Leaf i has the name 1000 + i.
 fn name_leaves(board: &mut [u16]) {
     let mut i: usize = 0;
@@ -63,28 +56,6 @@ fn clear_marks(marks: &mut [u16], c: usize) {
         marks[i] = if i + 1 < c { 0 } else { 9 };
         i += 1;
     }
-}
-
-// 1 where two entries are equal.
-fn equal(a: u16, b: u16) -> usize
-    ensures { λ r. ⌜ r ≤ 1 ⌝ }
-{
-    if a == b {
-        return 1;
-    }
-    0
-}
-
-// How many of the first n entries are x.
-fn count(entries: &[u16], n: usize, x: u16) -> usize {
-    let end = least(n, entries.len());
-    let mut many: usize = 0;
-    let mut i: usize = 0;
-    while i < end {
-        many += equal(entries[i], x);
-        i += 1;
-    }
-    many
 }
 
 fn by_slot(answer: Serving) -> Said {
@@ -147,11 +118,6 @@ fn all_clear(marks: &[u16], n: usize) -> usize
     0
 }
 
-// The number that tells the leaves, with one leaf more.
-fn with_leaf(order: u64, leaf: u16) -> u64 {
-    order % 4294967296 * 31 + leaf as u64
-}
-
 // One slot of both engines, on a board with so many inner nodes.
 fn serve_both(drive: Drive, inner: usize, board: &[u16], marks: &mut [u16]) -> Step
     ensures { λ r. ⌜ (r .agree ≤ 1) × (r .clear ≤ 1) ⌝ }
@@ -181,7 +147,7 @@ fn run(c: u16, inner: usize, board: &[u16], marks: &mut [u16], n: usize) -> Scor
         drive = s.drive;
         agree += s.agree;
         clear += s.clear;
-        order = with_leaf(order, s.leaf);
+        order = with_entry(order, s.leaf);
         i += 1;
     }
     Score {
@@ -199,12 +165,12 @@ fn show_rounds(c: u16, board: &[u16; 4095], marks: &mut [u16; 4095])
     clear_marks(marks, leaves);
     let slots = ROUNDS * leaves;
     let s = run(c, leaves - 1, board, marks, slots);
-    say(b"C ", c as u64);
-    say(b", slots ", slots as u64);
-    say(b": alike ", s.agree as u64);
-    say(b", all marks clear after ", s.clear as u64);
-    say(b", marks beyond untouched ", count(marks, 4095, 9) as u64);
-    say(b", order ", s.order);
+    say_after(b"C ", c as u64);
+    say_after(b", slots ", slots as u64);
+    say_after(b": alike ", s.agree as u64);
+    say_after(b", all marks clear after ", s.clear as u64);
+    say_after(b", marks beyond untouched ", count(marks, 4095, 9) as u64);
+    say_after(b", order ", s.order);
     end_line();
 }
 
@@ -216,34 +182,37 @@ fn show_engines(board: &[u16; 4095], marks: &mut [u16; 4095]) {
     }
 }
 
-fn say_mark(x: u16) {
-    say(b" ", x as u64);
-}
-
-// The first five marks.
-fn say_marks(marks: &[u16]) {
-    io::write_all(STDOUT_FILENO, b", marks");
-    let end = least(5, marks.len());
-    let mut i: usize = 0;
-    while i < end {
-        say_mark(marks[i]);
-        i += 1;
-    }
-}
-
 // One walk over the first n entries of the board and the first m marks; then the first five marks, lent or not.
 fn show_walk(c: u16, board: &[u16], n: usize, marks: &mut [u16], m: usize) {
-    let entries = least(n, board.len());
-    let lent = least(m, marks.len());
+    let entries = within(n, board);
+    let lent = within(m, marks);
     let s = by_walk(tree::walk(c, &board[..entries], &mut marks[..lent]));
-    say(b"walk ", c as u64);
-    say(b" of entries ", entries as u64);
-    say(b", marks ", lent as u64);
-    say(b": ", s.number as u64);
-    say(b" ", s.name as u64);
-    say(b" ", s.leaf as u64);
-    say_marks(marks);
+    say_after(b"walk ", c as u64);
+    say_after(b" of entries ", entries as u64);
+    say_after(b", marks ", lent as u64);
+    say_after(b": ", s.number as u64);
+    say_entry(s.name);
+    say_entry(s.leaf);
+    say(b", marks");
+    say_entries(marks, 0, 5);
     end_line();
+}
+
+// The walks of a table: how many, and for each C, the entries of the board and the marks that are lent.
+fn show_walks(table: &[u8], board: &[u16], marks: &mut [u16]) {
+    let n = count_at(table, 0);
+    let mut i: usize = 0;
+    while i < n {
+        let at = 3 * i + 1;
+        show_walk(
+            number_at(table, at),
+            board,
+            count_at(table, at + 1),
+            marks,
+            count_at(table, at + 2),
+        );
+        i += 1;
+    }
 }
 
 // A mark of any value but 0 leads right and becomes 0; the fourth and the fifth mark are none of a board of 4 leaves.
@@ -253,32 +222,25 @@ fn show_marks(board: &[u16; 4095], marks: &mut [u16; 4095]) {
     marks[2] = 65535;
     marks[3] = 9;
     marks[4] = 256;
-    show_walk(4, board, 4, marks, 5);
-    show_walk(4, board, 4, marks, 5);
-    show_walk(4, board, 4, marks, 3);
-    show_walk(4, board, 4095, marks, 3);
-    show_walk(4, board, 5, marks, 4);
+    show_walks(b"5: 4 4 5, 4 4 5, 4 4 3, 4 4095 3, 4 5 4", board, marks);
     marks[0] = 7;
-    show_walk(2, board, 2, marks, 1);
-    show_walk(2, board, 2, marks, 1);
-    show_walk(1, board, 1, marks, 0);
+    show_walks(b"3: 2 2 1, 2 2 1, 1 1 0", board, marks);
 }
 
 // 1 before 16, 16 before 2, and 2 of the board and of the marks; nothing is flipped.
 fn show_refusals(board: &[u16; 4095], marks: &mut [u16; 4095]) {
-    show_walk(0, board, 0, marks, 0);
-    show_walk(4096, board, 0, marks, 0);
-    show_walk(6144, board, 0, marks, 0);
-    show_walk(65535, board, 4095, marks, 4095);
-    show_walk(6, board, 0, marks, 0);
-    show_walk(3, board, 4095, marks, 4095);
-    show_walk(4095, board, 4095, marks, 4095);
-    show_walk(4, board, 3, marks, 4095);
-    show_walk(4, board, 4095, marks, 2);
-    show_walk(1, board, 0, marks, 4095);
-    show_walk(2048, board, 2048, marks, 2046);
-    show_walk(2048, board, 2047, marks, 2047);
-    show_walk(2048, board, 2048, marks, 2047);
+    show_walks(
+        b"4: 0 0 0, 4096 0 0, 6144 0 0, 65535 4095 4095",
+        board,
+        marks,
+    );
+    show_walks(b"3: 6 0 0, 3 4095 4095, 4095 4095 4095", board, marks);
+    show_walks(b"3: 4 3 4095, 4 4095 2, 1 0 4095", board, marks);
+    show_walks(
+        b"3: 2048 2048 2046, 2048 2047 2047, 2048 2048 2047",
+        board,
+        marks,
+    );
 }
 
 fn numbers() -> [u16; 4095] {

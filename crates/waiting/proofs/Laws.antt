@@ -1,6 +1,5 @@
 -- The laws of the list that upper crates cite: what the calls do to its meaning, that they keep its length and the numbers beyond, how the tickets count, what
--- waits and what becomes of an order; and what running a list takes, place by place.
--- Assumes nothing.
+-- waits and what becomes of an order; and what running a list takes, place by place. Assumes nothing.
 use mathlib.Core.Path.{_≡_, refl, sym, ap, subst, _∙_}
 use mathlib.Core.Bool.{false, cond}
 use mathlib.Core.Logic.{_⊎_, inl, inr}
@@ -13,8 +12,8 @@ use Rattle.general.proofs.Laws.{by-bool}
 use Rattle.waiting.specs.declared.Order.{Order}
 use Rattle.waiting.specs.declared.Outcome.{Outcome}
 use Rattle.waiting.specs.declared.Taking.{Taking}
-use Rattle.waiting.specs.declared.Found.{Found}
-use Rattle.waiting.specs.declared.Found.the-variants as place
+use Rattle.waiting.specs.declared.Known.{Known}
+use Rattle.waiting.specs.declared.Known.the-variants as place
 use Rattle.waiting.specs.declared.Fetching.{Fetching}
 use Rattle.waiting.specs.declared.Fetching.the-variants as fetching
 use Rattle.waiting.specs.Layout.{tooShort, lastTicket, answersIn, ordersIn, placesIn, orderAt, outcomeAt, ordersFrom, waiting, full, takenList, settled, found, answerOf, fetched, fetchedList, emptied}
@@ -22,11 +21,11 @@ use Rattle.waiting.specs.Carrying.{carriedAll, outcomes}
 use Rattle.waiting.specs.Meaning.{Under, Meaning, places, meaning, withAnswers, keptOrder, Fits, Rising, Orderly, InOrder}
 use Rattle.waiting.specs.Fates.{Fate, Waits, Gone, fetchedOf, ran, handedOut}
 use Rattle.waiting.specs.Promises.{Takes, Fetches}
-use Rattle.waiting.proofs.Standing as standing
-use Rattle.waiting.proofs.Standing.{StandsIn, map-append, outcomes-length}
+use Rattle.waiting.proofs.RisingTickets as standing
+use Rattle.waiting.proofs.RisingTickets.{StandsIn, map-append, outcomes-length}
 -- ---- the meaning: each call does to it what specs/Meaning says
 
-pub use Rattle.waiting.proofs.Meant.{take-means, run-means, fetch-means, fetch-tells, empty-means}
+pub use Rattle.waiting.proofs.Meant.{least-small, take-means, run-means, fetch-means, fetch-tells, empty-means}
 -- ---- every list keeps its length, and its numbers from 259 on
 
 pub use Rattle.waiting.proofs.Beyond.{take-length, run-length, fetch-length, empty-length, take-beyond, run-beyond, fetch-beyond, empty-beyond}
@@ -51,7 +50,7 @@ fetch-cases L t = by-bool (tooShort (length L))
     (λ s. inr (inr (rw s refl), rw s refl))
     (λ s. go (found L t) s refl)
   where
-    go : (k : Found) → tooShort (length L) ≡ false → found L t ≡ k
+    go : (k : Known) → tooShort (length L) ≡ false → found L t ≡ k
         → ((r : Outcome) × (fetched L t ≡ answerOf r))
         ⊎ (((fetched L t ≡ fetching.Waits t) ⊎ (fetched L t ≡ fetching.Unknown)) × (fetchedList L t ≡ L))
     go place.Nowhere s e = inr (inr (rw (s, e) refl), rw (s, e) refl)
@@ -90,8 +89,7 @@ kept-fits o fits =
 
 -- An order that is taken waits behind all that wait, as it was given.
 pub joins-end : (L : List ℕ) (o : Order) → 259 ≤ length L → full L ≡ false → Fits o → waiting (takenList L o) ≡ waiting L ++ (o ∷ [])
-joins-end L o l f fits =
-    waiting-means (takenList L o)
+joins-end L o l f fits = waiting-means (takenList L o)
     ∙ ap (λ (M : Meaning). items (M .orders)) (take-means L o l f)
     ∙ map-append (λ u. u .item) (meaning L .orders) (record { ticket = meaning L .last + 1; item = keptOrder o } ∷ [])
     ∙ rw (kept-fits o fits, sym (waiting-means L)) refl
@@ -105,8 +103,7 @@ module _ {S : Type 0} (does : Order → S → S) (says : Order → S → Outcome
   answers-count = outcomes-length does says s (waiting L) ∙ waiting-count L
 
   pub ran-means : 259 ≤ length L → meaning (settled L (answersOf does says s L)) ≡ withAnswers (meaning L) (standing.ranAnswers does says s (meaning L))
-  ran-means l =
-      run-means L (answersOf does says s L) l answers-count
+  ran-means l = run-means L (answersOf does says s L) l answers-count
       ∙ ap (λ (os : List Order). withAnswers (meaning L) (outcomes does says s os)) (waiting-means L)
 
   -- Once the list has run no order waits.
@@ -129,8 +126,7 @@ module _ (L : List ℕ) (long : 259 ≤ length L) where
       ∙ rw (last-means L, f) refl)
 
   pub run-last : {S : Type 0} (does : Order → S → S) (says : Order → S → Outcome) (s : S) → lastTicket (settled L (answersOf does says s L)) ≡ lastTicket L
-  run-last does says s =
-      sym (last-means (settled L (answersOf does says s L)))
+  run-last does says s = sym (last-means (settled L (answersOf does says s L)))
       ∙ ap (λ (M : Meaning). M .last) (ran-means does says s L long)
       ∙ last-means L
 

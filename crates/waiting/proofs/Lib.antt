@@ -3,5 +3,5 @@ mod Listing
 mod Meant
 mod Running
 mod Beyond
-mod Standing
+mod RisingTickets
 pub mod Laws

@@ -1,5 +1,4 @@
--- What taking, running, fetching and emptying make of a list is what they make of its meaning.
--- Assumes nothing.
+-- What taking, running, fetching and emptying make of a list is what they make of its meaning. Assumes nothing.
 use mathlib.Core.Path.{_≡_, refl, sym, ap, subst, _∙_}
 use mathlib.Core.Bool.{false, cond, not}
 use mathlib.Core.List.{List, [], _∷_, _++_}
@@ -13,10 +12,9 @@ use borrow.Author.Tests.{lt-ltb, le-ltb, ltb-true, not-false}
 use Rattle.general.proofs.Laws.{neither, by-bool}
 use Rattle.waiting.specs.declared.Order.{Order}
 use Rattle.waiting.specs.declared.Outcome.{Outcome}
-use Rattle.waiting.specs.declared.Found.the-variants as place
 use Rattle.waiting.specs.declared.Fetching.{Fetching}
 use Rattle.waiting.specs.declared.Fetching.the-variants as fetching
-use Rattle.waiting.specs.Layout.{least, lastTicket, answersIn, ordersIn, placesIn, ticketAt, orderAt, outcomeAt, counted, full, putAt, joined, takenList, answeredAt, answeredFrom, settled, foundFrom, placeOf, found, lowered, without, answerOf, fetched, fetchedList, emptied}
+use Rattle.waiting.specs.Layout.{least, lastTicket, answersIn, ordersIn, placesIn, ticketAt, orderAt, outcomeAt, counted, full, putAt, joined, takenList, answeredAt, answeredFrom, settled, foundFrom, placeOf, found, lowered, withoutPlace, answerOf, fetched, fetchedList, emptied}
 use Rattle.waiting.specs.Meaning.{Under, places, meaning, withOrder, each, withAnswers, dropped, withoutAnswer, withNothing, orderUnder, answerUnder, told, keptOrder}
 use Rattle.waiting.proofs.Listing.{places-most}
 
@@ -86,7 +84,7 @@ next-numbers F L i same =
 
 -- ---- a list with other counts
 
-least-small : (m n : ℕ) → m ≤ n → least m n ≡ m
+pub least-small : (m n : ℕ) → m ≤ n → least m n ≡ m
 unfolding least
 least-small m n l = elim (decLt m n) [
   | yes h ↦ rw (lt-ltb m n h) refl
@@ -118,14 +116,13 @@ module _ (L : List ℕ) (a w : ℕ) where
 
     pub counted-means : meaning (counted L a w) ≡ record { last = lastTicket L; answers = places (outcomeAt L) L 0 a; orders = places (orderAt L) L a w }
     unfolding meaning
-    counted-means =
-        rw (
-          counted-answers,
-          counted-orders,
-          counted-other 0 (λ e. omega arith) (λ e. omega arith),
-          places-same (outcomeAt (counted L a w)) (outcomeAt L) (counted L a w) L 0 0 a (λ k l. alike-outcome (alike-counted (0 + k))),
-          places-same (orderAt (counted L a w)) (orderAt L) (counted L a w) L a a w (λ k l. alike-order (alike-counted (a + k))),
-        ) refl
+    counted-means = rw (
+      counted-answers,
+      counted-orders,
+      counted-other 0 (λ e. omega arith) (λ e. omega arith),
+      places-same (outcomeAt (counted L a w)) (outcomeAt L) (counted L a w) L 0 0 a (λ k l. alike-outcome (alike-counted (0 + k))),
+      places-same (orderAt (counted L a w)) (orderAt L) (counted L a w) L a a w (λ k l. alike-order (alike-counted (a + k))),
+    ) refl
 
 -- ---- an order is taken
 
@@ -298,8 +295,7 @@ lowered-length L j (suc m) = lowered-length (set L j (getD L (j + 4) 0)) (suc j)
 lowered-before : (L : List ℕ) (j m q : ℕ) → q < j → getD (lowered L j m) q 0 ≡ getD L q 0
 unfolding lowered
 lowered-before L j zero q l = refl
-lowered-before L j (suc m) q l =
-    lowered-before (set L j (getD L (j + 4) 0)) (suc j) m q (omega arith)
+lowered-before L j (suc m) q l = lowered-before (set L j (getD L (j + 4) 0)) (suc j) m q (omega arith)
     ∙ getD-set-other L j q (getD L (j + 4) 0) 0 (λ e. omega arith)
 
 lowered-within : (L : List ℕ) (j m q : ℕ) → j ≤ q → q < j + m → j + m ≤ length L → getD (lowered L j m) q 0 ≡ getD L (q + 4) 0
@@ -414,8 +410,7 @@ module _ (L : List ℕ) (t : ℕ) where
 
   pub fetch-tells : 259 ≤ length L → fetched L t ≡ told (meaning L) t
   unfolding found meaning
-  fetch-tells long =
-      rw (le-ltb (length L) 259 long)
+  fetch-tells long = rw (le-ltb (length L) 259 long)
       (by-bool (eqb t 0)
       (λ z. rw z refl)
       (λ z. elim (decLt (placeOf L t) (answersIn L)) [
@@ -454,8 +449,8 @@ module _ (L : List ℕ) (i : ℕ) (long : 259 ≤ length L) (below : i < answers
       next-numbers moved L k (λ q a b. lowered-within L (3 + 4 * i) (4 * (placesIn L - (i + 1))) q (omega arith) (omega arith) (omega arith))
 
   without-means : (t : ℕ) → foundFrom L t 0 (answersIn L) ≡ i
-      → meaning (without L i) ≡ record { last = lastTicket L; answers = dropped t (places (outcomeAt L) L 0 (answersIn L)); orders = places (orderAt L) L (answersIn L) (ordersIn L) }
-  unfolding without moved
+      → meaning (withoutPlace L i) ≡ record { last = lastTicket L; answers = dropped t (places (outcomeAt L) L 0 (answersIn L)); orders = places (orderAt L) L (answersIn L) (ordersIn L) }
+  unfolding withoutPlace moved
   without-means t e =
       let p = places-most L in
       let l = moved-long in
@@ -482,8 +477,7 @@ module _ (L : List ℕ) (i : ℕ) (long : 259 ≤ length L) (below : i < answers
 module _ (L : List ℕ) (t : ℕ) (long : 259 ≤ length L) where
   pub fetch-means : meaning (fetchedList L t) ≡ withoutAnswer (meaning L) t
   unfolding found meaning
-  fetch-means =
-      rw (le-ltb (length L) 259 long)
+  fetch-means = rw (le-ltb (length L) 259 long)
       (by-bool (eqb t 0)
       (λ z. rw z refl)
       (λ z. elim (decLt (placeOf L t) (answersIn L)) [

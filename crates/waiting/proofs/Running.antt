@@ -1,5 +1,4 @@
--- Orders carried out place by place, over any state: one place more, and what is left to do from there.
--- Assumes nothing.
+-- Orders carried out place by place, over any state: one place more, and what is left to do from there. Assumes nothing.
 use mathlib.Core.Path.{_≡_, refl, ap₂, subst}
 use mathlib.Core.List.{List, _∷_}
 use Prim.Native.Nat.{ℕ, zero, suc, _+_, _-_, _*_, _≤_, _<_}
@@ -14,12 +13,11 @@ use Rattle.waiting.proofs.Meant.{answered-other}
 module _ (L : List ℕ) (i : ℕ) (r : Outcome) where
   order-kept : (j : ℕ) → i < j → orderAt (answeredAt L i r) j ≡ orderAt L j
   unfolding orderAt
-  order-kept j l =
-      rw (
-        answered-other L i r (4 + 4 * j) (λ e. omega arith) (λ e. omega arith),
-        answered-other L i r (5 + 4 * j) (λ e. omega arith) (λ e. omega arith),
-        answered-other L i r (6 + 4 * j) (λ e. omega arith) (λ e. omega arith),
-      ) refl
+  order-kept j l = rw (
+    answered-other L i r (4 + 4 * j) (λ e. omega arith) (λ e. omega arith),
+    answered-other L i r (5 + 4 * j) (λ e. omega arith) (λ e. omega arith),
+    answered-other L i r (6 + 4 * j) (λ e. omega arith) (λ e. omega arith),
+  ) refl
 
   orders-kept : (j m : ℕ) → i < j → ordersFrom (answeredAt L i r) j m ≡ ordersFrom L j m
   unfolding ordersFrom

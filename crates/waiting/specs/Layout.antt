@@ -13,8 +13,8 @@ use Rattle.waiting.specs.declared.Order.{Order}
 use Rattle.waiting.specs.declared.Outcome.{Outcome}
 use Rattle.waiting.specs.declared.Taking.{Taking}
 use Rattle.waiting.specs.declared.Taking.the-variants as taking
-use Rattle.waiting.specs.declared.Found.{Found}
-use Rattle.waiting.specs.declared.Found.the-variants as place
+use Rattle.waiting.specs.declared.Known.{Known}
+use Rattle.waiting.specs.declared.Known.the-variants as place
 use Rattle.waiting.specs.declared.Fetching.{Fetching}
 use Rattle.waiting.specs.declared.Fetching.the-variants as fetching
 
@@ -108,7 +108,7 @@ unfoldable pub placeOf : List ℕ → ℕ → ℕ
 placeOf L t = foundFrom L t 0 (placesIn L)
 
 -- What the list knows of a ticket. Ticket 0 is never known.
-unfoldable pub found : List ℕ → ℕ → Found
+unfoldable pub found : List ℕ → ℕ → Known
 found L t = cond (eqb t 0) place.Nowhere
     (cond (ltb (placeOf L t) (answersIn L)) (place.Answer (placeOf L t)) (cond (ltb (placeOf L t) (placesIn L)) place.Order place.Nowhere))
 
@@ -118,21 +118,21 @@ lowered L j zero = L
 lowered L j (suc m) = lowered (set L j (getD L (j + 4) 0)) (suc j) m
 
 -- The list without the answer at place i: the later places move down.
-unfoldable pub without : List ℕ → ℕ → List ℕ
-without L i = counted (lowered L (3 + 4 * i) (4 * (placesIn L - (i + 1)))) (answersIn L - 1) (ordersIn L)
+unfoldable pub withoutPlace : List ℕ → ℕ → List ℕ
+withoutPlace L i = counted (lowered L (3 + 4 * i) (4 * (placesIn L - (i + 1)))) (answersIn L - 1) (ordersIn L)
 
 abbrev pub answerOf : Outcome → Fetching
 answerOf r = fetching.Answer (r .number) (r .value)
 
-abbrev pub fetchingBy : List ℕ → ℕ → Found → Fetching
+abbrev pub fetchingBy : List ℕ → ℕ → Known → Fetching
 fetchingBy L t place.Nowhere = fetching.Unknown
 fetchingBy L t place.Order = fetching.Waits t
 fetchingBy L t (place.Answer i) = answerOf (outcomeAt L i)
 
-abbrev pub fetchedBy : List ℕ → Found → List ℕ
+abbrev pub fetchedBy : List ℕ → Known → List ℕ
 fetchedBy L place.Nowhere = L
 fetchedBy L place.Order = L
-fetchedBy L (place.Answer i) = without L i
+fetchedBy L (place.Answer i) = withoutPlace L i
 
 -- A list that is too short knows no ticket.
 abbrev pub fetched : List ℕ → ℕ → Fetching

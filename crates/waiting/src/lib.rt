@@ -40,7 +40,7 @@ pub enum Taking {
 }
 
 // What the list knows of a ticket: the place of its answer, that its order waits, or nothing.
-enum Found {
+enum Known {
     Answer(usize),
     Order,
     Nowhere,
@@ -174,22 +174,22 @@ fn place_of(list: &[u64], ticket: u64, n: usize) -> usize
 }
 
 // What the list knows of a ticket.
-fn find(list: &[u64], ticket: u64) -> Found
+fn find(list: &[u64], ticket: u64) -> Known
     requires { ⌜ 259 ≤ length (now list) ⌝ }
     ensures { λ r. ⌜ r ≡ layout.found (now (list .entry)) ticket ⌝ }
 {
     if ticket == 0 {
-        return Found::Nowhere;
+        return Known::Nowhere;
     }
     let n = counts(list);
     let i = place_of(list, ticket, n.answers + n.orders);
     if i < n.answers {
-        return Found::Answer(i);
+        return Known::Answer(i);
     }
     if i < n.answers + n.orders {
-        return Found::Order;
+        return Known::Order;
     }
-    Found::Nowhere
+    Known::Nowhere
 }
 
 // Moves m numbers down by four, to j and on.
@@ -207,7 +207,7 @@ fn lower(list: &mut [u64], j: usize, m: usize)
 // Takes the answer at a place off the list: the later places move down.
 fn drop_at(list: &mut [u64], i: usize)
     requires { ⌜ (259 ≤ length (now list)) × (i < layout.answersIn (now list)) ⌝ }
-    ensures { λ _. ⌜ now (list .exit) ≡ layout.without (now (list .entry)) i ⌝ }
+    ensures { λ _. ⌜ now (list .exit) ≡ layout.withoutPlace (now (list .entry)) i ⌝ }
 {
     let n = counts(list);
     lower(list, 3 + 4 * i, 4 * (n.answers + n.orders - (i + 1)));
@@ -222,9 +222,9 @@ pub fn fetch(list: &mut [u64], ticket: u64) -> Fetching
         return Fetching::Unknown;
     }
     match find(list, ticket) {
-        Found::Nowhere => Fetching::Unknown,
-        Found::Order => Fetching::Waits(ticket),
-        Found::Answer(i) => {
+        Known::Nowhere => Fetching::Unknown,
+        Known::Order => Fetching::Waits(ticket),
+        Known::Answer(i) => {
             let said = outcome_at(list, i);
             drop_at(list, i);
             Fetching::Answer {

@@ -7,21 +7,26 @@
 //     hold C P N    the record becomes C and P, with the round number N, or 0 where there is none
 //     open C, add X W, remove X, slot, report X
 //     lay           lays the board out afresh
-//     round N M     lends an output of N entries of 99, and shows the first M of them afterwards
+//     round N M     lends an output of N entries of 99, and shows its first M afterwards
 //
 // Any other line is a remark.
-ghost use Prim.Native.Nat.{_≤_};
-ghost use lib.ListN.{length};
-use calls::Change;
 use calls::Drive;
-use calls::Opening;
-use calls::Refreshing;
-use calls::Refusal;
-use calls::Report;
-use calls::Rounding;
-use calls::Serving;
 use libc::STDIN_FILENO;
-use libc::STDOUT_FILENO;
+use telling::answers::tell_changed;
+use telling::answers::tell_checked;
+use telling::answers::tell_reported;
+use telling::answers::tell_served;
+use telling::end_line;
+use telling::reading::letter_at;
+use telling::reading::line_end;
+use telling::reading::number_at;
+use telling::reading::record_of;
+use telling::say;
+use telling::say_entries;
+use telling::say_record;
+use telling::stores::fill;
+use telling::stores::put;
+use telling::stores::within;
 
 // The record, and how many entries of the store are lent.
 struct State {
@@ -29,302 +34,69 @@ struct State {
     lent: usize,
 }
 
-fn say(text: &[u8]) {
-    io::write_all(STDOUT_FILENO, text);
-}
-
-fn say_long(n: u64) {
-    say(b" ");
-    io::print_decimal(STDOUT_FILENO, n);
-}
-
-fn say_number(n: u16) {
-    say_long(n as u64);
-}
-
-fn say_drive(d: Drive) {
-    say(b" (");
-    io::print_decimal(STDOUT_FILENO, d.capacity as u64);
-    say_number(d.position);
-    say_long(d.round);
-    say(b")");
-}
-
-// The entries of a list from one index to another.
-fn say_entries(list: &[u16], from: usize, to: usize) {
-    let mut i = from;
-    while i < to {
-        if i < list.len() {
-            say_number(list[i]);
-        }
-        i += 1;
-    }
-}
-
-fn fill(list: &mut [u16], x: u16) {
-    let mut i: usize = 0;
-    while i < list.len() {
-        list[i] = x;
-        i += 1;
-    }
-}
-
-fn least(a: usize, b: usize) -> usize
-    ensures { λ r. ⌜ r ≤ b ⌝ }
-{
-    if a < b { a } else { b }
-}
-
-fn opens(board: &mut [u16], capacity: u16) -> Drive {
-    say(b":");
-    let r = Drive::open(capacity, board);
-    let answer = r.answer;
-    match answer {
-        Opening::Done => say_number(0),
-        Opening::Refused(n) => say_number(n.number()),
-    }
-    let after = r.drive;
-    say_drive(after);
-    after
-}
-
-fn say_change(answer: Change) {
-    match answer {
-        Change::Done(idle) => {
-            say_number(0);
-            say_number(idle);
-        }
-        Change::Room(idle) => {
-            say_number(Refusal::Room.number());
-            say_number(idle);
-        }
-        Change::Refused(n) => {
-            say_number(n.number());
-            say_number(0);
-        }
-    }
-}
-
-fn adds(d: Drive, board: &mut [u16], name: u16, weight: u16) -> Drive {
-    say(b":");
-    let r = d.add(board, name, weight);
-    let answer = r.answer;
-    say_change(answer);
-    let after = r.drive;
-    say_drive(after);
-    after
-}
-
-fn removes(d: Drive, board: &mut [u16], name: u16) -> Drive {
-    say(b":");
-    let r = d.remove(board, name);
-    let answer = r.answer;
-    say_change(answer);
-    let after = r.drive;
-    say_drive(after);
-    after
-}
-
-fn lays(d: Drive, board: &mut [u16]) -> Drive {
-    say(b":");
-    let r = d.fresh(board);
-    let answer = r.answer;
-    match answer {
-        Refreshing::Done => say_number(0),
-        Refreshing::Refused(n) => say_number(n.number()),
-    }
-    let after = r.drive;
-    say_drive(after);
-    after
-}
-
-fn say_three(a: u16, b: u16, c: u16) {
-    say_number(a);
-    say_number(b);
-    say_number(c);
-}
-
-fn serves(d: Drive, board: &[u16]) -> Drive {
-    say(b":");
-    let r = d.slot(board);
-    let answer = r.answer;
-    match answer {
-        Serving::Slot {
-            name,
-            leaf,
-            passed,
-            round,
-        } => {
-            say_number(0);
-            say_three(name, leaf, passed);
-            say_long(round);
-        }
-        Serving::Refused(n) => {
-            say_number(n.number());
-            say_three(0, 0, 0);
-            say_long(0);
-        }
-    }
-    let after = r.drive;
-    say_drive(after);
-    after
-}
-
-fn reports(d: Drive, board: &[u16], name: u16) -> Drive {
-    say(b":");
-    let r = d.report(board, name);
-    let answer = r.answer;
-    match answer {
-        Report::Stream {
-            weight,
-            pieces,
-            spacing,
-        } => {
-            say_number(0);
-            say_three(weight, pieces, spacing);
-        }
-        Report::Refused(n) => {
-            say_number(n.number());
-            say_three(0, 0, 0);
-        }
-    }
-    let after = r.drive;
-    say_drive(after);
-    after
-}
-
-fn rounds(d: Drive, board: &[u16], output: &mut [u16], shown: u16) -> Drive {
+// A round to the first n entries of an output of 99s.
+fn rounds(d: Drive, board: &[u16], output: &mut [u16], n: usize) -> Drive {
     fill(output, 99);
-    say(b":");
-    let r = d.round(board, output);
-    let answer = r.answer;
-    match answer {
-        Rounding::Done => say_number(0),
-        Rounding::Refused(n) => say_number(n.number()),
-    }
-    let after = r.drive;
-    say_drive(after);
-    say_entries(output, 0, shown as usize);
-    after
+    let lent = within(n, output);
+    tell_checked(d.round(board, &mut output[..lent]))
 }
 
-// Makes the call that a letter stands for, if it stands for one.
+// Makes the call that a letter stands for.
 fn call(d: Drive, letter: u8, a: u16, b: u16, board: &mut [u16], output: &mut [u16]) -> Drive {
     match letter {
-        b'e' => opens(board, a),
-        b'd' => adds(d, board, a, b),
-        b'm' => removes(d, board, a),
-        b'y' => lays(d, board),
-        b'o' => serves(d, board),
-        b'p' => reports(d, board, a),
-        b'u' => {
-            let n = least(a as usize, output.len());
-            rounds(d, board, &mut output[..n], b)
+        b'e' => tell_checked(Drive::open(a, board)),
+        b'd' => tell_changed(d.add(board, a, b)),
+        b'm' => tell_changed(d.remove(board, a)),
+        b'y' => tell_checked(d.fresh(board)),
+        b'o' => tell_served(d.slot(board)),
+        b'p' => tell_reported(d.report(board, a)),
+        _ => rounds(d, board, output, a as usize),
+    }
+}
+
+// Carries out a line that stands for a call.
+fn carry_out(s: State, line: &[u8], store: &mut [u16], output: &mut [u16]) -> State {
+    let letter = letter_at(line, 2);
+    let b = number_at(line, 1);
+    let lent = within(s.lent, store);
+    let d = s.drive;
+    say(b":");
+    let after = call(d, letter, number_at(line, 0), b, &mut store[..lent], output);
+    say_record(after);
+    if letter == b'u' {
+        say_entries(output, 0, b as usize);
+    }
+    State { drive: after, lent }
+}
+
+// Carries out a line that stands for none.
+fn arrange(mut s: State, line: &[u8], store: &mut [u16]) -> State {
+    let at = number_at(line, 0) as usize;
+    let x = number_at(line, 1);
+    match letter_at(line, 2) {
+        b'n' => {
+            fill(store, x);
+            s.lent = at;
         }
-        _ => d,
-    }
-}
-
-// A number with one more digit at its end.
-fn with_digit(value: u64, b: u8) -> u64 {
-    let tens = std::num::wrapping_add_u64(value << 3, value << 1);
-    std::num::wrapping_add_u64(tens, (b % 16) as u64)
-}
-
-// The number that stands at a place of a line, counted from 0 among its numbers; 0 where there is none.
-fn long_at(line: &[u8], place: usize) -> u64 {
-    let mut left = place;
-    let mut inside = false;
-    let mut value: u64 = 0;
-    let mut i: usize = 0;
-    while i < line.len() {
-        let b = line[i];
-        if b'0' <= b && b <= b'9' {
-            inside = true;
-            value = with_digit(value, b);
-        } else {
-            if inside {
-                if left == 0 {
-                    return value;
-                }
-                left -= 1;
-            }
-            inside = false;
-            value = 0;
+        b't' => put(store, at, x),
+        b'a' => {
+            say(b":");
+            say_entries(store, at, at + x as usize);
         }
-        i += 1;
-    }
-    if left == 0 { value } else { 0 }
-}
-
-fn number_at(line: &[u8], place: usize) -> u16 {
-    (long_at(line, place) % 65536) as u16
-}
-
-// Where the line that starts at an index ends.
-fn line_end(text: &[u8], from: usize) -> usize
-    requires { ⌜ from ≤ length (now text) ⌝ }
-    ensures { λ r. ⌜ (from ≤ r) × (r ≤ length (now (text .entry))) ⌝ }
-{
-    let mut i = from;
-    while i < text.len() {
-        if text[i] == b'\n' {
-            return i;
+        b'l' => {
+            s.drive = record_of(line);
         }
-        i += 1;
+        _ => {}
     }
-    i
-}
-
-// A record given by hand.
-fn held(capacity: u16, position: u16, round: u64) -> Drive {
-    Drive {
-        capacity,
-        position,
-        round,
-    }
+    s
 }
 
 // Carries out a line, which is told from others by its third letter.
-fn carry_out(s: State, line: &[u8], store: &mut [u16], output: &mut [u16]) -> State {
+fn next(s: State, line: &[u8], store: &mut [u16], output: &mut [u16]) -> State {
     say(line);
-    let d = s.drive;
-    let lent = least(s.lent, store.len());
-    let a = number_at(line, 0);
-    let b = number_at(line, 1);
-    let mut letter = b'-';
-    if 2 < line.len() {
-        letter = line[2];
-    }
-    match letter {
-        b'n' => {
-            fill(store, b);
-            State {
-                drive: d,
-                lent: a as usize,
-            }
-        }
-        b't' => {
-            let at = a as usize;
-            if at < store.len() {
-                store[at] = b;
-            }
-            State { drive: d, lent }
-        }
-        b'a' => {
-            let from = a as usize;
-            say(b":");
-            say_entries(store, from, from + b as usize);
-            State { drive: d, lent }
-        }
-        b'l' => State {
-            drive: held(a, b, long_at(line, 2)),
-            lent,
-        },
-        _ => State {
-            drive: call(d, letter, a, b, &mut store[..lent], output),
-            lent,
-        },
+    match letter_at(line, 2) {
+        b'e' | b'd' | b'm' | b'y' | b'o' | b'p' | b'u' => carry_out(s, line, store, output),
+        _ => arrange(s, line, store),
     }
 }
 
@@ -336,8 +108,8 @@ fn play(text: &[u8], store: &mut [u16], output: &mut [u16]) {
     let mut at: usize = 0;
     while at < text.len() {
         let end = line_end(text, at);
-        s = carry_out(s, &text[at..end], store, output);
-        say(b"\n");
+        s = next(s, &text[at..end], store, output);
+        end_line();
         at = end + 1;
     }
 }

@@ -1,5 +1,4 @@
--- `batch::carry_entry` meets its contract.
--- Assumes nothing.
+-- `batch::carry_entry` meets its contract. Assumes nothing.
 use Rattle.batch.specs.Entries.{carried}
 use borrow.Author.Needs.{needs}
 use Rattle.batch.proofs.carry_entry.Statement.{statement}
@@ -12,5 +11,4 @@ returns c =
     (simp (c .note .ensures, p .0), p .1, p .2)
 
 pub carry-entry-spec : {M : Type 1} → statement M
-carry-entry-spec =
-    tie.close (tie.spec (λ c κs. search needs) (λ c κs. search needs) (λ c. search needs) (λ c. search needs) returns)
+carry-entry-spec = tie.close (tie.spec (λ c κs. search needs) (λ c κs. search needs) (λ c. search needs) (λ c. search needs) returns)

@@ -1,5 +1,4 @@
--- `batch::order` meets its contract.
--- Assumes nothing.
+-- `batch::order` meets its contract. Assumes nothing.
 use borrow.Author.Tests.{eq-eqb, ne-eqb}
 use Rattle.batch.specs.Entries.{ordered, orderedBoard, orderedList}
 use borrow.Author.Needs.{needs}
@@ -29,8 +28,5 @@ returns-3 c =
     (simp (j, k), simp (j, k), simp (j, k))
 
 pub order-spec : {M : Type 1} → statement M
-order-spec =
-    tie.close
-    (tie.spec
-    (λ c κs. search needs) (λ c. search needs) (λ c. search needs) returns (λ c κs. search needs) (λ c. search needs) (λ c. search needs)
-    returns-2 returns-3)
+order-spec = tie.close (tie.spec (λ c κs. search needs) (λ c. search needs) (λ c. search needs) returns (λ c κs. search needs) (λ c. search needs)
+    (λ c. search needs) returns-2 returns-3)

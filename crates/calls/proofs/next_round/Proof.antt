@@ -1,5 +1,4 @@
--- `calls::next_round` meets its contract.
--- Assumes nothing.
+-- `calls::next_round` meets its contract. Assumes nothing.
 use native.Mathlib.Omega.{arith}
 use Rattle.calls.proofs.next_round.Statement.{statement}
 use Rattle.calls.proofs.next_round.Tie as tie

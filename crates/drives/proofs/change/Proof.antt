@@ -1,9 +1,8 @@
--- `drives::change` meets its contract.
--- Assumes nothing.
+-- `drives::change` meets its contract. Assumes nothing.
 use borrow.Author.Needs.{needs}
 use mathlib.Core.Path.{_≡_, sym, _∙_}
 use Rattle.drives.specs.Checks.{bothStart, wayOf}
-use Rattle.drives.proofs.Pairs.{pair-vouch}
+use Rattle.drives.proofs.PairChecks.{pair-vouch}
 use Rattle.drives.proofs.change.Statement.{statement}
 use Rattle.drives.proofs.change.Tie as tie
 
@@ -19,7 +18,4 @@ returns c =
     rw (found, begins) at (c .before .before .before .before .take .ensures)
 
 pub change-spec : {M : Type 1} → statement M
-change-spec =
-    tie.close
-    (tie.spec
-    (λ c κs. search needs) (λ c κs. search needs) take-requires (λ c. search needs) (λ c. search needs) returns)
+change-spec = tie.close (tie.spec (λ c κs. search needs) (λ c κs. search needs) take-requires (λ c. search needs) (λ c. search needs) returns)

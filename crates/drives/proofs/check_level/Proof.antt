@@ -1,5 +1,4 @@
--- `drives::check_level` meets its contract.
--- Assumes nothing.
+-- `drives::check_level` meets its contract. Assumes nothing.
 use borrow.Author.Needs.{needs}
 use borrow.Author.Tests.{eq-eqb, ne-eqb}
 use mathlib.Core.Path.{sym, _∙_}
@@ -24,7 +23,4 @@ returns-3 c =
     simp (found, ne-eqb _ _ (c .if1 .left))
 
 pub check-level-spec : {M : Type 1} → statement M
-check-level-spec =
-    tie.close
-    (tie.spec
-    (λ c κs. search needs) (λ c. search needs) (λ c. search needs) returns returns-2 returns-3)
+check-level-spec = tie.close (tie.spec (λ c κs. search needs) (λ c. search needs) (λ c. search needs) returns returns-2 returns-3)

@@ -1,7 +1,6 @@
--- `drives::check_places` meets its contract.
--- Assumes nothing.
+-- `drives::check_places` meets its contract. Assumes nothing.
 use borrow.Author.Needs.{needs}
-use Rattle.drives.proofs.Pairs.{places-own, places-other, places-unequal}
+use Rattle.drives.proofs.PairChecks.{places-own, places-other, places-unequal}
 use Rattle.drives.proofs.check_places.Statement.{statement}
 use Rattle.drives.proofs.check_places.Tie as tie
 
@@ -21,8 +20,5 @@ returns-3 : tie.Need-returns-3
 returns-3 c = places-unequal (c .before .before .before .args .own) (c .before .before .before .args .other) (c .if1 .left)
 
 pub check-places-spec : {M : Type 1} → statement M
-check-places-spec =
-    tie.close
-    (tie.spec
-    (λ c. search needs) (λ c. search needs) (λ c κs. search needs) (λ c. search needs) (λ c. search needs) (λ c. search needs)
-    (λ c κs. search needs) returns returns-2 returns-3)
+check-places-spec = tie.close (tie.spec (λ c. search needs) (λ c. search needs) (λ c κs. search needs) (λ c. search needs) (λ c. search needs)
+    (λ c. search needs) (λ c κs. search needs) returns returns-2 returns-3)

@@ -1,5 +1,4 @@
--- `drives::check_sizes` meets its contract.
--- Assumes nothing.
+-- `drives::check_sizes` meets its contract. Assumes nothing.
 use borrow.Author.Needs.{needs}
 use mathlib.Core.Path.{_≡_}
 use Rattle.calls.specs.declared.Check.{Check}
@@ -7,7 +6,7 @@ use Rattle.calls.specs.declared.Check.the-variants.{Clear}
 use Rattle.calls.specs.declared.Refusal.the-variants.{Short}
 use Rattle.calls.specs.Refusals.{refuseIf, andThen}
 use Rattle.drives.specs.Checks.{sizeCheck}
-use Rattle.drives.proofs.Pairs.{sizes-own, sizes-other, sizes-found}
+use Rattle.drives.proofs.PairChecks.{sizes-own, sizes-other, sizes-found}
 use Rattle.drives.proofs.check_sizes.Statement.{statement}
 use Rattle.drives.proofs.check_sizes.Tie as tie
 
@@ -35,9 +34,5 @@ returns-5 : tie.Need-returns-5
 returns-5 c = found (c .before .before .before) _ (simp (c .before .enum-told .given .1, c .if3 .left))
 
 pub check-sizes-spec : {M : Type 1} → statement M
-check-sizes-spec =
-    tie.close
-    (tie.spec
-    returns returns-2
-    (λ c. search needs) (λ c. search needs) (λ c κs. search needs) (λ c κs. search needs) (λ c. search needs) (λ c. search needs) returns-3
-    returns-4 returns-5)
+check-sizes-spec = tie.close (tie.spec returns returns-2 (λ c. search needs) (λ c. search needs) (λ c κs. search needs) (λ c κs. search needs)
+    (λ c. search needs) (λ c. search needs) returns-3 returns-4 returns-5)

@@ -1,5 +1,4 @@
--- `drives::check_start` meets its contract.
--- Assumes nothing.
+-- `drives::check_start` meets its contract. Assumes nothing.
 use borrow.Author.Needs.{needs}
 use mathlib.Core.Path.{sym, _∙_}
 use Rattle.drives.specs.Checks.{startCheck}
@@ -23,7 +22,5 @@ returns-3 c =
     simp (found, sym (c .before .both-start .ensures) ∙ c .if1 .left)
 
 pub check-start-spec : {M : Type 1} → statement M
-check-start-spec =
-    tie.close
-    (tie.spec
-    (λ c κs. search needs) (λ c. search needs) (λ c. search needs) (λ c κs. search needs) returns returns-2 returns-3)
+check-start-spec = tie.close (tie.spec (λ c κs. search needs) (λ c. search needs) (λ c. search needs) (λ c κs. search needs) returns returns-2
+    returns-3)

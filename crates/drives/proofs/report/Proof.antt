@@ -1,5 +1,4 @@
--- `drives::report` meets its contract.
--- Assumes nothing.
+-- `drives::report` meets its contract. Assumes nothing.
 use borrow.Author.Needs.{needs}
 use mathlib.Core.Path.{sym, _∙_}
 use Rattle.drives.specs.Checks.{pairReportCheck}
@@ -20,6 +19,4 @@ returns-2 c =
     (simp (s .0, e), simp (s .1, e))
 
 pub report-spec : {M : Type 1} → statement M
-report-spec =
-    tie.close
-    (tie.spec (λ c κs. search needs) (λ c. search needs) (λ c. search needs) (λ c κs. search needs) returns returns-2)
+report-spec = tie.close (tie.spec (λ c κs. search needs) (λ c. search needs) (λ c. search needs) (λ c κs. search needs) returns returns-2)

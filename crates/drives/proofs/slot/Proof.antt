@@ -1,10 +1,9 @@
--- `drives::slot` meets its contract.
--- Assumes nothing.
+-- `drives::slot` meets its contract. Assumes nothing.
 use borrow.Author.Needs.{needs}
 use mathlib.Core.Path.{_≡_, sym, _∙_}
 use Rattle.drives.specs.Checks.{bothStart}
 use Rattle.drives.specs.Results.{boardThen, listThen}
-use Rattle.drives.proofs.Pairs.{pair-vouch}
+use Rattle.drives.proofs.PairChecks.{pair-vouch}
 use Rattle.drives.proofs.slot.Statement.{statement}
 use Rattle.drives.proofs.slot.Tie as tie
 
@@ -20,7 +19,4 @@ returns c =
     rw (found, begins) at (c .before .before .before .before .serve .ensures)
 
 pub slot-spec : {M : Type 1} → statement M
-slot-spec =
-    tie.close
-    (tie.spec
-    (λ c κs. search needs) (λ c κs. search needs) serve-requires (λ c. search needs) (λ c. search needs) returns)
+slot-spec = tie.close (tie.spec (λ c κs. search needs) (λ c κs. search needs) serve-requires (λ c. search needs) (λ c. search needs) returns)

@@ -1,5 +1,4 @@
--- `group_cases::count_up` meets its contract.
--- Assumes nothing.
+-- `group_cases::count_up` meets its contract. Assumes nothing.
 use borrow.Author.Needs.{needs}
 use mathlib.Core.Path.{_≡_}
 use Prim.Native.Nat.{_-_, _≤_}
@@ -14,8 +13,5 @@ abbrev μ-loop : tie.MeasureT-loop
 μ-loop entries₀ i₀ entries i = length entries₀ - i
 
 pub count-up-spec : {M : Type 1} → statement M
-count-up-spec =
-    tie.close
-    (tie.spec
-    Inv-loop μ-loop (λ c. search needs) (λ c. search needs) (λ c. search needs) (λ c. search needs) (λ c. search needs) (λ c. search needs)
-    (λ c. search needs) (λ c. search needs) (λ c. search needs) (λ c. search needs))
+count-up-spec = tie.close (tie.spec Inv-loop μ-loop (λ c. search needs) (λ c. search needs) (λ c. search needs) (λ c. search needs)
+    (λ c. search needs) (λ c. search needs) (λ c. search needs) (λ c. search needs) (λ c. search needs) (λ c. search needs))

@@ -1,5 +1,4 @@
--- `group_cases::order` meets its contract.
--- Assumes nothing.
+-- `group_cases::order` meets its contract. Assumes nothing.
 use borrow.Author.Needs.{needs}
 use Prim.Native.Nat.{_-_}
 use Rattle.group_cases.proofs.order.Statement.{statement}

@@ -3,17 +3,17 @@ use mathlib.Core.Path.{_≡_, refl, _∙_}
 use Prim.Native.Nat.{_-_, _≤_}
 use native.Mathlib.Omega.{arith}
 use lib.ListN.{length}
-use Rattle.pieces.specs.Fresh.{laid, Placeables}
-use Rattle.groups.specs.Table.{count, offset, streamsFrom, tableStreams}
+use Rattle.pieces.specs.Fresh.{allPlaced, Placeables}
+use Rattle.groups.specs.Table.{streamCount, offset, streamsFrom, tableStreams}
 use Rattle.groups.proofs.Faults.{table-rises}
 use Rattle.groups.proofs.Adding.{list-placeable, list-laid, lists-none, lists-all}
-use Rattle.groups.proofs.Steps.{offset-none, offset-more, list-within}
+use Rattle.groups.proofs.RoundSteps.{offset-none, offset-more, list-within}
 use Rattle.groups.proofs.admit_all.Statement.{statement}
 use Rattle.groups.proofs.admit_all.Tie as tie
 
 abbrev Inv-loop : tie.InvT-loop
 Inv-loop board₀ c starts names k from₀ i₀ board from i = (i ≤ k) × (from ≡ offset k starts i) × (length board ≡ length board₀) × Placeables c board (streamsFrom k starts names i (k - i))
-    × (laid c board (streamsFrom k starts names i (k - i)) ≡ laid c board₀ (tableStreams k starts names))
+    × (allPlaced c board (streamsFrom k starts names i (k - i)) ≡ allPlaced c board₀ (tableStreams k starts names))
 
 abbrev μ-loop : tie.MeasureT-loop
 μ-loop board₀ c starts names k from₀ i₀ board from i = k - i
@@ -43,14 +43,11 @@ add-from c = let a = c .before .before .before .before .before .before .before .
     let p = c .before .before .before .before .before .before .before .before .before .before .before .pre in
     let L = c .before .before .before .before .before .before .before .loop in
     let w = list-within (a .k) (a .starts .now) (a .names .now) (p .1) (p .0) (L .i) (c .before .before .before .before .before .before .loop-test .taken) in
-    let n : c .before .before .before .before .before .streams-of .result ≡ count (a .k) (a .starts .now) (L .i) = c .before .before .before .before .before .streams-of .ensures .0 in
+    let n : c .before .before .before .before .before .streams-of .result ≡ streamCount (a .k) (a .starts .now) (L .i) = c .before .before .before .before .before .streams-of .ensures .0 in
     omega (arith, w .1, L .inv .1)
 
 add-i : tie.Need-add-i Inv-loop μ-loop
 add-i c = omega (arith, c .before .before .before .before .before .before .before .before .before .before .before .pre .0)
-
-loop-less : tie.Need-loop-less Inv-loop μ-loop
-loop-less c = omega arith
 
 loop-again : tie.Need-loop-again Inv-loop μ-loop
 loop-again c = let a = c .before .before .before .before .before .before .before .before .before .before .before .args in
@@ -75,8 +72,5 @@ returns c = let a = c .before .before .before .before .before .args in
     lists-none (a .c) (a .k) (a .starts .now) (a .names .now) (L .board) (L .i) (c .loop-test .left) ∙ L .inv .4
 
 pub admit-all-spec : {M : Type 1} → statement M
-admit-all-spec =
-    tie.close
-    (tie.spec
-    Inv-loop μ-loop loop-holds streams-of-requires rate-of-requires admit-list-requires add-from add-i loop-less loop-again same-length
-    returns)
+admit-all-spec = tie.close (tie.spec Inv-loop μ-loop loop-holds streams-of-requires rate-of-requires admit-list-requires add-from add-i
+    (λ c. omega arith) loop-again same-length returns)

@@ -3,7 +3,7 @@ use mathlib.Core.Path.{_≡_, refl, _∙_}
 use Prim.Native.Nat.{_+_, _-_, _≤_}
 use native.Mathlib.Omega.{arith}
 use lib.ListN.{length}
-use Rattle.pieces.specs.Fresh.{laid, Placeables}
+use Rattle.pieces.specs.Fresh.{allPlaced, Placeables}
 use Rattle.groups.specs.Table.{streamsAt}
 use Rattle.groups.proofs.Adding.{admissible, turn, turns-none, turns-all}
 use Rattle.groups.proofs.admit_list.Statement.{statement}
@@ -11,7 +11,7 @@ use Rattle.groups.proofs.admit_list.Tie as tie
 
 abbrev Inv-loop : tie.InvT-loop
 Inv-loop board₀ c names from n w j₀ board j = (j ≤ n) × (length board ≡ length board₀) × Placeables c board (streamsAt names w (from + j) (n - j))
-    × (laid c board (streamsAt names w (from + j) (n - j)) ≡ laid c board₀ (streamsAt names w from n))
+    × (allPlaced c board (streamsAt names w (from + j) (n - j)) ≡ allPlaced c board₀ (streamsAt names w from n))
 
 abbrev μ-loop : tie.MeasureT-loop
 μ-loop board₀ c names from n w j₀ board j = n - j
@@ -38,9 +38,6 @@ admit-requires c κs = let a = c .before .before .before .before .before .before
 add-j : tie.Need-add-j Inv-loop μ-loop
 add-j c = omega (arith, c .before .before .before .before .before .before .before .before .before .pre .1)
 
-loop-less : tie.Need-loop-less Inv-loop μ-loop
-loop-less c = omega arith
-
 loop-again : tie.Need-loop-again Inv-loop μ-loop
 loop-again c = let a = c .before .before .before .before .before .before .before .before .before .args in
     let L = c .before .before .before .before .before .before .loop in
@@ -56,7 +53,5 @@ returns c = let a = c .before .before .before .before .args in
     turns-none (a .c) (a .names .now) (a .w) (L .board) (a .from) (a .n) (L .j) (c .loop-test .left) ∙ L .inv .3
 
 pub admit-list-spec : {M : Type 1} → statement M
-admit-list-spec =
-    tie.close
-    (tie.spec
-    Inv-loop μ-loop loop-holds add-admit mul-admit shared-slice-read-admit admit-requires add-j loop-less loop-again same-length returns)
+admit-list-spec = tie.close (tie.spec Inv-loop μ-loop loop-holds add-admit mul-admit shared-slice-read-admit admit-requires add-j (λ c. omega arith)
+    loop-again same-length returns)

@@ -31,9 +31,6 @@ returns c = any-here _ _ _ (c .before .before .loop-test .taken) (eq-eqb _ _ (c 
 add-i : tie.Need-add-i Inv-loop μ-loop
 add-i c = omega (arith, c .before .before .before .before .pre .1)
 
-loop-less : tie.Need-loop-less Inv-loop μ-loop
-loop-less c = omega arith
-
 loop-again : tie.Need-loop-again Inv-loop μ-loop
 loop-again c = (omega arith, any-next _ _ _ (c .before .before .loop-test .taken) (ne-eqb _ _ (c .if1 .left)) ∙ c .before .before .before .loop .inv .1)
 
@@ -41,7 +38,4 @@ returns-2 : tie.Need-returns-2 Inv-loop μ-loop
 returns-2 c = any-last _ _ _ (c .loop-test .left) ∙ c .before .loop .inv .1
 
 pub among-spec : {M : Type 1} → statement M
-among-spec =
-    tie.close
-    (tie.spec
-    Inv-loop μ-loop loop-holds mul-if1 shared-slice-read-if1 returns add-i loop-less loop-again returns-2)
+among-spec = tie.close (tie.spec Inv-loop μ-loop loop-holds mul-if1 shared-slice-read-if1 returns add-i (λ c. omega arith) loop-again returns-2)

@@ -28,8 +28,5 @@ returns-3 c = let a = c .before .before .before .before .before .before .args in
     bad-part (a .k) (a .starts .now) (a .i) (c .before .rate-of .result) (c .before .rate-of .ensures) (c .before .before .if1 .left) (c .if2 .left)
 
 pub bad-list-spec : {M : Type 1} → statement M
-bad-list-spec =
-    tie.close
-    (tie.spec
-    (λ c. search needs) (λ c. search needs) cast-from (λ c. search needs) (λ c. search needs) (λ c. search needs) cast-to returns
-    (λ c κs. search needs) rem-if2 returns-2 returns-3)
+bad-list-spec = tie.close (tie.spec (λ c. search needs) (λ c. search needs) cast-from (λ c. search needs) (λ c. search needs) (λ c. search needs)
+    cast-to returns (λ c κs. search needs) rem-if2 returns-2 returns-3)

@@ -25,9 +25,6 @@ returns c = any-here _ _ _ (c .before .before .loop-test .taken) (sym (c .before
 add-i : tie.Need-add-i Inv-loop μ-loop
 add-i c = omega (arith, c .before .before .before .before .before .pre .0)
 
-loop-less : tie.Need-loop-less Inv-loop μ-loop
-loop-less c = omega arith
-
 loop-again : tie.Need-loop-again Inv-loop μ-loop
 loop-again c = (omega arith, any-next _ _ _ (c .before .before .loop-test .taken) (sym (c .before .bad-list .ensures) ∙ c .if1 .left) ∙ c .before .before .before .loop .inv .1)
 
@@ -35,7 +32,4 @@ returns-2 : tie.Need-returns-2 Inv-loop μ-loop
 returns-2 c = any-last _ _ _ (c .loop-test .left) ∙ c .before .loop .inv .1
 
 pub bad-lists-spec : {M : Type 1} → statement M
-bad-lists-spec =
-    tie.close
-    (tie.spec
-    Inv-loop μ-loop loop-holds bad-list-requires returns add-i loop-less loop-again returns-2)
+bad-lists-spec = tie.close (tie.spec Inv-loop μ-loop loop-holds bad-list-requires returns add-i (λ c. omega arith) loop-again returns-2)

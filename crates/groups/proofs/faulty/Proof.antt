@@ -42,9 +42,5 @@ returns-6 c = let a = c .before .before .before .before .before .before .before 
     (c .before .if5 .left ∙ c .before .before .offset-of .ensures .0) _ (c .bad-names .ensures)
 
 pub faulty-spec : {M : Type 1} → statement M
-faulty-spec =
-    tie.close
-    (tie.spec
-    (λ c. search needs) returns (λ c. search needs) returns-2 (λ c κs. search needs) returns-3
-    (λ c. search needs) (λ c. search needs) (λ c. search needs) cast-if4 returns-4 offset-of-requires returns-5 (λ c κs. search needs)
-    returns-6)
+faulty-spec = tie.close (tie.spec (λ c. search needs) returns (λ c. search needs) returns-2 (λ c κs. search needs) returns-3 (λ c. search needs)
+    (λ c. search needs) (λ c. search needs) cast-if4 returns-4 offset-of-requires returns-5 (λ c κs. search needs) returns-6)

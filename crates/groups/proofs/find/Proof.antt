@@ -3,7 +3,7 @@ use mathlib.Core.Path.{_≡_, refl, _∙_}
 use Prim.Native.Nat.{_+_, _-_, _≤_}
 use native.Mathlib.Omega.{arith}
 use Rattle.groups.specs.Rounds.{listOf}
-use Rattle.groups.proofs.Steps.{list-here, list-next, list-last}
+use Rattle.groups.proofs.RoundSteps.{list-here, list-next, list-last}
 use Rattle.groups.proofs.find.Statement.{statement}
 use Rattle.groups.proofs.find.Tie as tie
 
@@ -34,9 +34,6 @@ returns c = list-here _ _ _ _ (c .before .before .loop-test .taken) (c .if1 .tak
 add-i : tie.Need-add-i Inv-loop μ-loop
 add-i c = omega (arith, c .before .before .before .before .pre .0)
 
-loop-less : tie.Need-loop-less Inv-loop μ-loop
-loop-less c = omega arith
-
 loop-again : tie.Need-loop-again Inv-loop μ-loop
 loop-again c = (omega arith, list-next _ _ _ _ (c .before .before .loop-test .taken) (omega arith) ∙ c .before .before .before .loop .inv .1)
 
@@ -44,7 +41,5 @@ returns-2 : tie.Need-returns-2 Inv-loop μ-loop
 returns-2 c = list-last _ _ _ _ (omega arith) ∙ c .before .loop .inv .1
 
 pub find-spec : {M : Type 1} → statement M
-find-spec =
-    tie.close
-    (tie.spec
-    Inv-loop μ-loop loop-holds add-if1 mul-if1 shared-slice-read-if1 cast-if1 returns add-i loop-less loop-again returns-2)
+find-spec = tie.close (tie.spec Inv-loop μ-loop loop-holds add-if1 mul-if1 shared-slice-read-if1 cast-if1 returns add-i (λ c. omega arith) loop-again
+    returns-2)

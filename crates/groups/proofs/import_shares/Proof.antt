@@ -3,7 +3,7 @@ use mathlib.Core.Path.{_≡_, sym, ap₂, _∙_}
 use mathlib.Core.Bool.{Bool, _||_}
 use Prim.Native.Nat.{_≤_}
 use lib.ListN.{length}
-use Rattle.groups.specs.declared.Finding.the-variants.{Clear}
+use Rattle.groups.specs.declared.Importing.the-variants.{Clear}
 use Rattle.groups.specs.Results.{findsShares}
 use Rattle.groups.proofs.Checked.{found-is, shares-plain, shares-long}
 use borrow.Author.Needs.{needs}

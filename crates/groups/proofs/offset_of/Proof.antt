@@ -3,7 +3,7 @@ use mathlib.Core.Path.{_≡_}
 use Prim.Native.Nat.{_-_, _*_, _≤_}
 use native.Mathlib.Omega.{arith}
 use Rattle.groups.specs.Table.{offset}
-use Rattle.groups.proofs.Steps.{offset-none, offset-more}
+use Rattle.groups.proofs.RoundSteps.{offset-none, offset-more}
 use Rattle.groups.proofs.offset_of.Statement.{statement}
 use Rattle.groups.proofs.offset_of.Tie as tie
 
@@ -25,9 +25,6 @@ add-n c = let p = c .before .before .before .before .pre in omega (arith, p .0, 
 add-j : tie.Need-add-j Inv-loop μ-loop
 add-j c = let p = c .before .before .before .before .pre in omega (arith, p .0, p .1)
 
-loop-less : tie.Need-loop-less Inv-loop μ-loop
-loop-less c = omega arith
-
 loop-again : tie.Need-loop-again Inv-loop μ-loop
 loop-again c = (omega arith, rw (c .before .before .loop .inv .1, c .streams-of .ensures .0) (offset-more _ _ _), omega (arith, c .streams-of .ensures .1, c .before .before .loop .inv .2))
 
@@ -35,7 +32,4 @@ returns : tie.Need-returns Inv-loop μ-loop
 returns c = let e : c .before .loop .j ≡ c .before .before .before .args .i = omega arith in (rw e at (c .before .loop .inv .1), rw e at (c .before .loop .inv .2))
 
 pub offset-of-spec : {M : Type 1} → statement M
-offset-of-spec =
-    tie.close
-    (tie.spec
-    Inv-loop μ-loop loop-holds streams-of-requires add-n add-j loop-less loop-again returns)
+offset-of-spec = tie.close (tie.spec Inv-loop μ-loop loop-holds streams-of-requires add-n add-j (λ c. omega arith) loop-again returns)

@@ -5,7 +5,7 @@ use lib.ListN.{length, getD}
 use Rattle.groups.specs.Table.{offset}
 use Rattle.groups.proofs.Faults.{table-rises}
 use Rattle.groups.proofs.Pointers.{served-place}
-use Rattle.groups.proofs.Steps.{next-fits, names-short, name-here, name-idle, moved-here, moved-idle}
+use Rattle.groups.proofs.RoundSteps.{next-fits, names-short, name-here, name-idle, moved-here, moved-idle}
 use borrow.Author.Needs.{needs}
 use Rattle.groups.proofs.serve.Statement.{statement}
 use Rattle.groups.proofs.serve.Tie as tie
@@ -49,8 +49,5 @@ returns-2 : tie.Need-returns-2
 returns-2 c = (name-idle _ _ _ _ _ _ (c .before .find .ensures) (omega arith), moved-idle _ _ _ _ _ (c .before .find .ensures) (omega arith) (c .before .before .before .before .before .pre .2 .size))
 
 pub serve-spec : {M : Type 1} → statement M
-serve-spec =
-    tie.close
-    (tie.spec
-    (λ c κs. search needs) (λ c. search needs) (λ c. search needs) cast-p offset-of-requires add-at streams-of-requires next-requires
-    cast-pointers (λ c. search needs) (λ c. search needs) mul-result shared-slice-read-result (λ c. search needs) returns returns-2)
+serve-spec = tie.close (tie.spec (λ c κs. search needs) (λ c. search needs) (λ c. search needs) cast-p offset-of-requires add-at streams-of-requires
+    next-requires cast-pointers (λ c. search needs) (λ c. search needs) mul-result shared-slice-read-result (λ c. search needs) returns returns-2)

@@ -6,7 +6,7 @@ use native.Mathlib.Numerals.{add-one}
 use native.Mathlib.Omega.{arith}
 use lib.ListN.{getD}
 use lib.Pow.{pow-pos}
-use Rattle.groups.specs.Table.{count}
+use Rattle.groups.specs.Table.{streamCount}
 use borrow.Author.Needs.{needs}
 use Rattle.groups.proofs.streams_of.Statement.{statement}
 use Rattle.groups.proofs.streams_of.Tie as tie
@@ -24,14 +24,11 @@ div-result : tie.Need-div-result
 div-result c = rw (c .rate-of .ensures) (pow-pos _)
 
 returns : tie.Need-returns
-unfolding count
+unfolding streamCount
 returns c = let a = c .before .before .before .before .args in
     let d = getD (a .starts .now) (a .i + 1) 0 - getD (a .starts .now) (a .i) 0 in
     (rw (c .rate-of .ensures, add-one (a .i)) refl, omega (arith, div-le-self d (c .rate-of .result), c .before .before .shared-slice-known2 .given (a .i + 1)))
 
 pub streams-of-spec : {M : Type 1} → statement M
-streams-of-spec =
-    tie.close
-    (tie.spec
-    (λ c. search needs) (λ c. search needs) (λ c. search needs) cast-result (λ c. search needs) (λ c. search needs) cast-result-2 sub-result
-    (λ c κs. search needs) div-result returns)
+streams-of-spec = tie.close (tie.spec (λ c. search needs) (λ c. search needs) (λ c. search needs) cast-result (λ c. search needs) (λ c. search needs)
+    cast-result-2 sub-result (λ c κs. search needs) div-result returns)

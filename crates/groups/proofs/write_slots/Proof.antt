@@ -9,7 +9,7 @@ use Rattle.sequences.proofs.Laws.{shift-exact}
 use Rattle.groups.specs.Rounds.{Pointing, pointersAfter}
 use Rattle.groups.proofs.Rounding.{heads}
 use Rattle.groups.proofs.Pointers.{moved-pointing}
-use Rattle.groups.proofs.Steps.{written, written-none, written-more, after-more, after-none, written-all}
+use Rattle.groups.proofs.RoundSteps.{written, written-none, written-more, after-more, after-none, written-all}
 use Rattle.groups.proofs.write_slots.Statement.{statement}
 use Rattle.groups.proofs.write_slots.Tie as tie
 
@@ -46,9 +46,6 @@ slice-write-output c = let z = size c in omega (arith, c .before .before .before
 add-t : tie.Need-add-t Inv-loop μ-loop
 add-t c = let z = size c in omega arith
 
-loop-less : tie.Need-loop-less Inv-loop μ-loop
-loop-less c = omega arith
-
 loop-again : tie.Need-loop-again Inv-loop μ-loop
 loop-again c =
     let L = c .before .before .before .before .before .before .loop in
@@ -78,8 +75,5 @@ returns c =
     c .before .loop .inv .4 ∙ rw e (written-all (a .k) (a .starts .now) (a .names .now) (a .output .now))
 
 pub write-slots-spec : {M : Type 1} → statement M
-write-slots-spec =
-    tie.close
-    (tie.spec
-    Inv-loop μ-loop shl-c loop-holds reverse-requires serve-requires mul-output slice-write-output add-t loop-less loop-again same-length
-    same-length-2 returns)
+write-slots-spec = tie.close (tie.spec Inv-loop μ-loop shl-c loop-holds reverse-requires serve-requires mul-output slice-write-output add-t
+    (λ c. omega arith) loop-again same-length same-length-2 returns)

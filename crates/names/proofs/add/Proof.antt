@@ -32,9 +32,7 @@ returns c =
     added-set (a .args .cells .now) (a .args .x) (a .args .v) _ _ (add-one _) (a .pre .2) (a .pre .3 .size) (getD-set-other (a .args .cells .now) 4097 _ _ 0 (λ e. omega arith))
 
 pub add-spec : {M : Type 1} → statement M
-add-spec =
-    tie.close
-    (tie.spec
-    (λ c. search needs) slice-read-n (λ c. search needs) (λ c. search needs) (λ c. search needs) slice-write-cells (λ c. search needs)
-    slice-read-cells (λ c. search needs) (λ c. search needs) slice-write-cells-2 (λ c. search needs) (λ c. search needs) slice-write-cells-3
-    (λ c. search needs) (λ c. search needs) (λ c. search needs) (λ c. search needs) slice-write-cells-4 (λ c. search needs) returns)
+add-spec = tie.close (tie.spec (λ c. search needs) slice-read-n (λ c. search needs) (λ c. search needs) (λ c. search needs) slice-write-cells
+    (λ c. search needs) slice-read-cells (λ c. search needs) (λ c. search needs) slice-write-cells-2 (λ c. search needs) (λ c. search needs)
+    slice-write-cells-3 (λ c. search needs) (λ c. search needs) (λ c. search needs) (λ c. search needs) slice-write-cells-4 (λ c. search needs)
+    returns)

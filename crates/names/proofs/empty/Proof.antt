@@ -1,6 +1,6 @@
 -- `names::empty` meets its contract. Assumes nothing.
 use mathlib.Core.Path.{refl}
-use Rattle.names.specs.Table.{blank}
+use Rattle.general.specs.Lists.{blank}
 use Rattle.names.proofs.empty.Statement.{statement}
 use Rattle.names.proofs.empty.Tie as tie
 

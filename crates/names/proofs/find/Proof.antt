@@ -11,12 +11,6 @@ Inv-loop cells x n₀ n = Walking cells x n
 abbrev μ-loop : tie.MeasureT-loop
 μ-loop cells x n₀ n = n
 
-add-n : tie.Need-add-n Inv-loop μ-loop
-add-n c = omega arith
-
-mul-n : tie.Need-mul-n Inv-loop μ-loop
-mul-n c = omega arith
-
 shared-slice-read-n : tie.Need-shared-slice-read-n Inv-loop μ-loop
 shared-slice-read-n c = omega (arith, c .before .pre .1 .size)
 
@@ -73,8 +67,5 @@ returns-2 c =
     walking-none (a .args .cells .now) (a .pre .1) (a .args .x) (c .before .loop .n) (c .before .loop .inv) (omega arith)
 
 pub find-spec : {M : Type 1} → statement M
-find-spec =
-    tie.close
-    (tie.spec
-    Inv-loop μ-loop add-n mul-n shared-slice-read-n cast-n loop-holds mul-m shared-slice-read-m cast-m returns add-n-2 mul-n-2
-    shared-slice-read-n-2 cast-n-2 loop-less loop-again returns-2)
+find-spec = tie.close (tie.spec Inv-loop μ-loop (λ c. omega arith) (λ c. omega arith) shared-slice-read-n cast-n loop-holds mul-m shared-slice-read-m
+    cast-m returns add-n-2 mul-n-2 shared-slice-read-n-2 cast-n-2 loop-less loop-again returns-2)

@@ -20,22 +20,14 @@ abbrev μ-run-places : Measures 2 run-places-kinds.ps ℕ
 μ-run-places κs a = a .1 .1 .1 .1 .0
 
 abbrev run-places-at : ℕ → In 2 run-places-kinds.ps
-run-places-at t =
-    and 2 run-places-kinds.ps (is 2 run-places-kinds.ps μ-run-places t) run-places.Pre
+run-places-at t = and 2 run-places-kinds.ps (is 2 run-places-kinds.ps μ-run-places t) run-places.Pre
 
 abbrev run-places-below : ℕ → In 2 run-places-kinds.ps
-run-places-below t =
-    and 2 run-places-kinds.ps (falls 2 run-places-kinds.ps _<_ μ-run-places t) run-places.Pre
+run-places-below t = and 2 run-places-kinds.ps (falls 2 run-places-kinds.ps _<_ μ-run-places t) run-places.Pre
 
 -- what is asked of each callee, and learnt of it
 abbrev callees : ℕ → run-places-lts.Claims
 callees t = (check-change-reads.Asked, check-change-reads.Learnt, run-places-below t, run-places.Post, run-place-reads.Asked, run-place-reads.Learnt)
-
-run-places-check-change-requires : (t : ℕ) → run-places-lts.Need-check-change-requires (callees t) (run-places-at t) run-places.Post
-run-places-check-change-requires t c κs = search needs
-
-run-places-same-length : (t : ℕ) → run-places-lts.Need-same-length (callees t) (run-places-at t) run-places.Post
-run-places-same-length t c = search needs
 
 run-places-returns : (t : ℕ) → run-places-lts.Need-returns (callees t) (run-places-at t) run-places.Post
 run-places-returns t c =
@@ -46,20 +38,8 @@ run-places-returns t c =
       sym (list-none (doing (a .drive)) (saying (a .drive)) (a .board .now) (a .list .now) (a .first) (a .end) h),
     )
 
-run-places-sub-last : (t : ℕ) → run-places-lts.Need-sub-last (callees t) (run-places-at t) run-places.Post
-run-places-sub-last t c = omega arith
-
-run-places-run-places-requires : (t : ℕ) → run-places-lts.Need-run-places-requires (callees t) (run-places-at t) run-places.Post
-run-places-run-places-requires t c κs = omega arith
-
 run-places-run-place-requires : (t : ℕ) → run-places-lts.Need-run-place-requires (callees t) (run-places-at t) run-places.Post
 run-places-run-place-requires t c κs = (c .before .before .before .before .before .before .run-places .ensures .0, omega arith, omega arith)
-
-run-places-same-length-2 : (t : ℕ) → run-places-lts.Need-same-length-2 (callees t) (run-places-at t) run-places.Post
-run-places-same-length-2 t c = search needs
-
-run-places-same-length-3 : (t : ℕ) → run-places-lts.Need-same-length-3 (callees t) (run-places-at t) run-places.Post
-run-places-same-length-3 t c = search needs
 
 run-places-returns-2 : (t : ℕ) → run-places-lts.Need-returns-2 (callees t) (run-places-at t) run-places.Post
 run-places-returns-2 t c =
@@ -69,15 +49,6 @@ run-places-returns-2 t c =
     ran-more (a .drive) (a .board .now) (a .list .now) (a .first) (a .end) (λ h. let l = c .before .before .before .before .before .before .before .before .before .before .before .before .before .before .if1 .left in omega arith) _ _ _ _ _ (p .0) (p .1) (p .2) (e .0) (e .1)
 
 pub +run-places-spec : {M : Type 1} → statement M
-+run-places-spec = close μ-run-places λ t. run-places-lts.spec (callees t)
-    (run-places-at t)
-    run-places.Post
-    (run-places-check-change-requires t)
-    (run-places-same-length t)
-    (run-places-returns t)
-    (run-places-sub-last t)
-    (run-places-run-places-requires t)
-    (run-places-run-place-requires t)
-    (run-places-same-length-2 t)
-    (run-places-same-length-3 t)
-    (run-places-returns-2 t)
++run-places-spec = close μ-run-places λ t. run-places-lts.spec (callees t) (run-places-at t) run-places.Post (λ c κs. search needs)
+    (λ c. search needs) (run-places-returns t) (λ c. omega arith) (λ c κs. omega arith) (run-places-run-place-requires t) (λ c. search needs)
+    (λ c. search needs) (run-places-returns-2 t)

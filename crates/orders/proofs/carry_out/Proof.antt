@@ -1,5 +1,4 @@
--- `orders::carry_out` meets its contract.
--- Assumes nothing.
+-- `orders::carry_out` meets its contract. Assumes nothing.
 use borrow.Author.Needs.{needs}
 use borrow.Author.Tests.{eq-eqb, ne-eqb}
 use Rattle.orders.specs.Results.{carried, carriedBoard}
@@ -29,7 +28,5 @@ returns-3 c =
     (simp (f, e), simp (f, e))
 
 pub carry-out-spec : {M : Type 1} → statement M
-carry-out-spec =
-    tie.close
-    (tie.spec
-    (λ c κs. search needs) (λ c. search needs) returns (λ c κs. search needs) (λ c. search needs) returns-2 returns-3)
+carry-out-spec = tie.close (tie.spec (λ c κs. search needs) (λ c. search needs) returns (λ c κs. search needs) (λ c. search needs) returns-2
+    returns-3)

@@ -1,5 +1,4 @@
--- `orders::change` meets its contract.
--- Assumes nothing.
+-- `orders::change` meets its contract. Assumes nothing.
 use borrow.Author.Needs.{needs}
 use mathlib.Core.Path.{sym, _∙_}
 use Rattle.orders.specs.Checks.{mustWait, wayOf}
@@ -16,5 +15,4 @@ returns c =
     rw (c .before .before .before .before .before .before .before .before .check-bounds .ensures) at (c .before .before .before .before .take .ensures)
 
 pub change-spec : {M : Type 1} → statement M
-change-spec =
-    tie.close (tie.spec (λ c κs. search needs) take-requires (λ c. search needs) (λ c. search needs) returns)
+change-spec = tie.close (tie.spec (λ c κs. search needs) take-requires (λ c. search needs) (λ c. search needs) returns)

@@ -1,5 +1,4 @@
--- `orders::check_bounds` meets its contract.
--- Assumes nothing.
+-- `orders::check_bounds` meets its contract. Assumes nothing.
 use borrow.Author.Needs.{needs}
 use mathlib.Core.Path.{sym, _∙_}
 use Rattle.orders.specs.Checks.{boundsCheck}
@@ -22,8 +21,5 @@ returns-2 c =
     c .check-position .ensures ∙ simp (sym (c .before .before .before .before .check-lent .ensures) ∙ c .before .before .enum-told .given .1)
 
 pub check-bounds-spec : {M : Type 1} → statement M
-check-bounds-spec =
-    tie.close
-    (tie.spec
-    (λ c. search needs) (λ c κs. search needs) (λ c. search needs) (λ c. search needs) (λ c. search needs) check-position-requires returns
-    returns-2)
+check-bounds-spec = tie.close (tie.spec (λ c. search needs) (λ c κs. search needs) (λ c. search needs) (λ c. search needs) (λ c. search needs)
+    check-position-requires returns returns-2)

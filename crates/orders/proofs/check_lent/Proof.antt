@@ -1,5 +1,4 @@
--- `orders::check_lent` meets its contract.
--- Assumes nothing.
+-- `orders::check_lent` meets its contract. Assumes nothing.
 use borrow.Author.Needs.{needs}
 use borrow.Author.Tests.{lt-ltb, le-ltb}
 use mathlib.Core.Path.{sym, _∙_}
@@ -13,14 +12,11 @@ returns c = simp (sym (c .before .before .before .check-open .ensures) ∙ c .be
 
 returns-2 : tie.Need-returns-2
 unfolding lentCheck
-returns-2 c =
-    simp (sym (c .before .before .before .check-open .ensures) ∙ c .before .enum-told .given .1, lt-ltb _ _ (c .if1 .taken))
+returns-2 c = simp (sym (c .before .before .before .check-open .ensures) ∙ c .before .enum-told .given .1, lt-ltb _ _ (c .if1 .taken))
 
 returns-3 : tie.Need-returns-3
 unfolding lentCheck
-returns-3 c =
-    simp (sym (c .before .before .before .check-open .ensures) ∙ c .before .enum-told .given .1, le-ltb _ _ (c .if1 .left))
+returns-3 c = simp (sym (c .before .before .before .check-open .ensures) ∙ c .before .enum-told .given .1, le-ltb _ _ (c .if1 .left))
 
 pub check-lent-spec : {M : Type 1} → statement M
-check-lent-spec =
-    tie.close (tie.spec (λ c κs. search needs) (λ c. search needs) (λ c. search needs) returns returns-2 returns-3)
+check-lent-spec = tie.close (tie.spec (λ c κs. search needs) (λ c. search needs) (λ c. search needs) returns returns-2 returns-3)

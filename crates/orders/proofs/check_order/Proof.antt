@@ -1,5 +1,4 @@
--- `orders::check_order` meets its contract.
--- Assumes nothing.
+-- `orders::check_order` meets its contract. Assumes nothing.
 use borrow.Author.Needs.{needs}
 use mathlib.Core.Path.{sym, _∙_}
 use Rattle.orders.specs.Checks.{orderCheck}

@@ -1,5 +1,4 @@
--- `orders::check_words` meets its contract.
--- Assumes nothing.
+-- `orders::check_words` meets its contract. Assumes nothing.
 use borrow.Author.Tests.{eq-eqb, ne-eqb}
 use Rattle.orders.proofs.check_words.Statement.{statement}
 use Rattle.orders.proofs.check_words.Tie as tie

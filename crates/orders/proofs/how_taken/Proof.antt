@@ -1,5 +1,4 @@
--- `orders::how_taken` meets its contract.
--- Assumes nothing.
+-- `orders::how_taken` meets its contract. Assumes nothing.
 use borrow.Author.Needs.{needs}
 use mathlib.Core.Path.{sym, _∙_}
 use Rattle.calls.proofs.Laws.{slot-sized}
@@ -29,8 +28,5 @@ returns-4 : tie.Need-returns-4
 returns-4 c = simp (c .before .before .enum-told .given .1, sym (c .before .must-wait .ensures) ∙ c .if1 .left)
 
 pub how-taken-spec : {M : Type 1} → statement M
-how-taken-spec =
-    tie.close
-    (tie.spec
-    (λ c. search needs) (λ c. search needs) must-wait-requires (λ c. search needs) check-order-requires
+how-taken-spec = tie.close (tie.spec (λ c. search needs) (λ c. search needs) must-wait-requires (λ c. search needs) check-order-requires
     (λ c. search needs) (λ c. search needs) returns returns-2 returns-3 returns-4)

@@ -1,5 +1,4 @@
--- `orders::made` meets its contract.
--- Assumes nothing.
+-- `orders::made` meets its contract. Assumes nothing.
 use borrow.Author.Needs.{needs}
 use Rattle.orders.proofs.made.Statement.{statement}
 use Rattle.orders.proofs.made.Tie as tie
@@ -14,7 +13,4 @@ returns-3 : tie.Need-returns-3
 returns-3 c = simp (c .before .change3 .given .1)
 
 pub made-spec : {M : Type 1} → statement M
-made-spec =
-    tie.close
-    (tie.spec
-    (λ c. search needs) (λ c. search needs) (λ c. search needs) returns returns-2 returns-3)
+made-spec = tie.close (tie.spec (λ c. search needs) (λ c. search needs) (λ c. search needs) returns returns-2 returns-3)

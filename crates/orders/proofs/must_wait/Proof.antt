@@ -1,5 +1,4 @@
--- `orders::must_wait` meets its contract.
--- Assumes nothing.
+-- `orders::must_wait` meets its contract. Assumes nothing.
 use borrow.Author.Needs.{needs}
 use Rattle.orders.proofs.must_wait.Statement.{statement}
 use Rattle.orders.proofs.must_wait.Tie as tie

@@ -1,5 +1,4 @@
--- `orders::open` meets its contract.
--- Assumes nothing.
+-- `orders::open` meets its contract. Assumes nothing.
 use borrow.Author.Needs.{needs}
 use mathlib.Core.Path.{sym, _∙_}
 use Rattle.orders.proofs.Changing.{lent-open, lent-long}
@@ -22,8 +21,5 @@ returns-2 c =
     (simp (e, o, p .0), simp (e, o, p .1), simp (e, o, p .2), simp (e, c .before .before .before .before .before .before .empty .ensures))
 
 pub open-spec : {M : Type 1} → statement M
-open-spec =
-    tie.close
-    (tie.spec
-    (λ c κs. search needs) (λ c. search needs) (λ c κs. search needs) (λ c. search needs) empty-requires
+open-spec = tie.close (tie.spec (λ c κs. search needs) (λ c. search needs) (λ c κs. search needs) (λ c. search needs) empty-requires
     (λ c κs. search needs) (λ c. search needs) returns (λ c. search needs) (λ c. search needs) returns-2)

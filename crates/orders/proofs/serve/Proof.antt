@@ -1,5 +1,4 @@
--- `orders::serve` meets its contract.
--- Assumes nothing.
+-- `orders::serve` meets its contract. Assumes nothing.
 use borrow.Author.Needs.{needs}
 use Rattle.orders.proofs.Changing.{if-slot}
 use Rattle.orders.proofs.serve.Statement.{statement}
@@ -20,7 +19,5 @@ returns-2 c =
     (simp (s .0, f .0, q, e), simp (s .1, f .0, q, e), simp (e, f .0), simp (e, f .1))
 
 pub serve-spec : {M : Type 1} → statement M
-serve-spec =
-    tie.close
-    (tie.spec
-    (λ c. search needs) (λ c. search needs) start-requires (λ c κs. search needs) returns (λ c. search needs) (λ c. search needs) returns-2)
+serve-spec = tie.close (tie.spec (λ c. search needs) (λ c. search needs) start-requires (λ c κs. search needs) returns (λ c. search needs)
+    (λ c. search needs) returns-2)

@@ -1,5 +1,4 @@
--- `orders::slot` meets its contract.
--- Assumes nothing.
+-- `orders::slot` meets its contract. Assumes nothing.
 use borrow.Author.Needs.{needs}
 use mathlib.Core.Path.{sym, _∙_}
 use Rattle.orders.specs.Results.{boardThen, listThen}
@@ -16,5 +15,4 @@ returns c =
     rw (c .before .before .before .before .before .before .before .before .check-bounds .ensures) at (c .before .before .before .before .serve .ensures)
 
 pub slot-spec : {M : Type 1} → statement M
-slot-spec =
-    tie.close (tie.spec (λ c κs. search needs) serve-requires (λ c. search needs) (λ c. search needs) returns)
+slot-spec = tie.close (tie.spec (λ c κs. search needs) serve-requires (λ c. search needs) (λ c. search needs) returns)

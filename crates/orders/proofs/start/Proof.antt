@@ -1,5 +1,4 @@
--- `orders::start` meets its contract.
--- Assumes nothing.
+-- `orders::start` meets its contract. Assumes nothing.
 use borrow.Author.Needs.{needs}
 use Rattle.orders.proofs.start.Statement.{statement}
 use Rattle.orders.proofs.start.Tie as tie

@@ -1,5 +1,4 @@
--- `orders::take` meets its contract.
--- Assumes nothing.
+-- `orders::take` meets its contract. Assumes nothing.
 use borrow.Author.Needs.{needs}
 use mathlib.Core.Path.{sym, _∙_}
 use Rattle.orders.proofs.Changing.{way-wait, made-says, taken-says}
@@ -28,9 +27,6 @@ returns-3 c =
     (simp (e, c .made .ensures, k .0), simp (e, c .made .ensures, k .0) (made-says _ _ _), simp (e, k .1), simp e)
 
 pub take-spec : {M : Type 1} → statement M
-take-spec =
-    tie.close
-    (tie.spec
-    (λ c κs. search needs) (λ c. search needs) (λ c. search needs) take-requires
-    (λ c κs. search needs) (λ c. search needs) (λ c κs. search needs) (λ c κs. search needs) (λ c κs. search needs) (λ c. search needs)
-    (λ c. search needs) returns (λ c. search needs) (λ c. search needs) returns-2 (λ c. search needs) (λ c. search needs) returns-3)
+take-spec = tie.close (tie.spec (λ c κs. search needs) (λ c. search needs) (λ c. search needs) take-requires (λ c κs. search needs)
+    (λ c. search needs) (λ c κs. search needs) (λ c κs. search needs) (λ c κs. search needs) (λ c. search needs) (λ c. search needs) returns
+    (λ c. search needs) (λ c. search needs) returns-2 (λ c. search needs) (λ c. search needs) returns-3)

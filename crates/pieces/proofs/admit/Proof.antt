@@ -11,10 +11,8 @@ place-requires : tie.Need-place-requires
 place-requires c κs = placeable _ _ _ _ _ (c .before .before .before .before .before .pre) (c .before .before .weigh .ensures) (c .before .if1 .left)
 
 returns-2 : tie.Need-returns-2
-returns-2 c =
-    all-placed _ _ _ _ _ (c .before .before .before .before .before .before .before .before .pre)
+returns-2 c = all-placed _ _ _ _ _ (c .before .before .before .before .before .before .before .before .pre)
     (c .before .before .before .before .before .weigh .ensures) (c .before .before .before .before .if1 .left) _ (c .before .before .place .ensures)
 
 pub admit-spec : {M : Type 1} → statement M
-admit-spec =
-    tie.close (tie.spec (λ c κs. search needs) (λ c. search needs) returns place-requires (λ c. search needs) returns-2)
+admit-spec = tie.close (tie.spec (λ c κs. search needs) (λ c. search needs) returns place-requires (λ c. search needs) returns-2)

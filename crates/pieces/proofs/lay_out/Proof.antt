@@ -38,8 +38,6 @@ returns c =
     ∙ laid-fresh _ (a .args .board .now) _ (p .1) (p .0) (λ i. omega (arith, k i)) (c .before .before .before .before .before .before .before .before .before .before .before .before .before .before .before .before .weights .ensures) (p .2) _ _ (l .1) (c .before .before .before .before .before .before .before .before .fill .ensures)
 
 pub lay-out-spec : {M : Type 1} → statement M
-lay-out-spec =
-    tie.close
-    (tie.spec
-    (λ c κs. search needs) (λ c. search needs) weights-requires (λ c κs. search needs) (λ c. search needs) (λ c. search needs)
-    list-names-requires (λ c κs. search needs) (λ c. search needs) (λ c. search needs) place-all-requires (λ c. search needs) returns)
+lay-out-spec = tie.close (tie.spec (λ c κs. search needs) (λ c. search needs) weights-requires (λ c κs. search needs) (λ c. search needs)
+    (λ c. search needs) list-names-requires (λ c κs. search needs) (λ c. search needs) (λ c. search needs) place-all-requires (λ c. search needs)
+    returns)

@@ -16,8 +16,5 @@ returns-4 : tie.Need-returns-4
 returns-4 c = simp (c .said-refused .ensures, c .before .before .answer .given .1)
 
 pub of-imported-spec : {M : Type 1} → statement M
-of-imported-spec =
-    tie.close
-    (tie.spec
-    (λ c. search needs) (λ c κs. search needs) (λ c. search needs) (λ c κs. search needs) (λ c. search needs) (λ c κs. search needs)
-    (λ c. search needs) (λ c κs. search needs) returns returns-2 returns-3 returns-4)
+of-imported-spec = tie.close (tie.spec (λ c. search needs) (λ c κs. search needs) (λ c. search needs) (λ c κs. search needs) (λ c. search needs)
+    (λ c κs. search needs) (λ c. search needs) (λ c κs. search needs) returns returns-2 returns-3 returns-4)

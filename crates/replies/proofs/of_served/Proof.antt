@@ -10,8 +10,5 @@ returns-2 : tie.Need-returns-2
 returns-2 c = simp (c .said-refused .ensures, c .before .before .answer2 .given .1)
 
 pub of-served-spec : {M : Type 1} → statement M
-of-served-spec =
-    tie.close
-    (tie.spec
-    (λ c. search needs) (λ c. search needs) (λ c. search needs) (λ c. search needs) (λ c κs. search needs) (λ c. search needs) (λ c κs. search needs)
-    returns returns-2)
+of-served-spec = tie.close (tie.spec (λ c. search needs) (λ c. search needs) (λ c. search needs) (λ c. search needs) (λ c κs. search needs)
+    (λ c. search needs) (λ c κs. search needs) returns returns-2)

@@ -13,8 +13,5 @@ returns-3 : tie.Need-returns-3
 returns-3 c = simp (c .said-told3 .ensures, c .before .enum-told .given .1)
 
 pub said-fetching-spec : {M : Type 1} → statement M
-said-fetching-spec =
-    tie.close
-    (tie.spec
-    (λ c. search needs) (λ c κs. search needs) (λ c. search needs) (λ c κs. search needs) (λ c. search needs) (λ c κs. search needs) returns
-    returns-2 returns-3)
+said-fetching-spec = tie.close (tie.spec (λ c. search needs) (λ c κs. search needs) (λ c. search needs) (λ c κs. search needs) (λ c. search needs)
+    (λ c κs. search needs) returns returns-2 returns-3)

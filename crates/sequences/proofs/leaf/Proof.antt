@@ -1,10 +1,9 @@
--- `sequences::leaf` meets its contract.
--- Assumes nothing.
+-- `sequences::leaf` meets its contract. Assumes nothing.
 use mathlib.Core.Path.{_≡_}
 use Prim.Native.Nat.{_+_}
 use native.Mathlib.Omega.{arith}
 use borrow.Author.Needs.{needs}
-use Rattle.sequences.specs.Board.{leafAt}
+use Rattle.sequences.specs.SlotOrder.{leafAt}
 use Rattle.sequences.proofs.Stepping.{column-small, term-small, leaf-64, leaf-small}
 use Rattle.sequences.proofs.leaf.Statement.{statement}
 use Rattle.sequences.proofs.leaf.Tie as tie
@@ -29,7 +28,4 @@ returns : tie.Need-returns
 returns c = is c
 
 pub leaf-spec : {M : Type 1} → statement M
-leaf-spec =
-    tie.close
-    (tie.spec
-    (λ c κs. search needs) start-requires (λ c κs. search needs) shr-reversed reversed-requires add-result returns)
+leaf-spec = tie.close (tie.spec (λ c κs. search needs) start-requires (λ c κs. search needs) shr-reversed reversed-requires add-result returns)

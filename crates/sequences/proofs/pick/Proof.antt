@@ -1,10 +1,9 @@
--- `sequences::pick` meets its contract.
--- Assumes nothing.
+-- `sequences::pick` meets its contract. Assumes nothing.
 use mathlib.Core.Path.{_≡_, ap, ap₂, _∙_}
 use Prim.Native.Nat.{ℕ, _+_, _-_}
 use native.Mathlib.Omega.{arith}
 use borrow.Author.Needs.{needs}
-use Rattle.sequences.specs.Board.{leafAt, passedFrom, servedFrom, after, nextFrom}
+use Rattle.sequences.specs.SlotOrder.{leafAt, passedFrom, servedFrom, positionAfter, nextFrom}
 use Rattle.sequences.specs.declared.Slot.{Slot}
 use Rattle.sequences.proofs.Stepping.{column-small, position-small, served, digits-small}
 use Rattle.sequences.proofs.pick.Statement.{statement}
@@ -32,8 +31,8 @@ leaf-requires c κs =
     let s = served (a .args .c) (a .args .p) (a .pre) .here in
     omega arith
 
-after-requires : tie.Need-after-requires
-after-requires c κs =
+position-after-requires : tie.Need-position-after-requires
+position-after-requires c κs =
     let a = c .before .before .before .before in
     let s = served (a .args .c) (a .args .p) (a .pre) in
     (omega (arith, digits-small (a .args .c) (a .pre .some) (a .pre .few)), rw (served-is (c .before .before), c .digits .ensures) (s .here .last))
@@ -47,10 +46,8 @@ unfolding nextFrom
 returns c =
     let b = c .before .before .before in
     slot-same (c .before .before .leaf .ensures ∙ ap (leafAt (b .before .before .args .c)) (served-is b)) (passed-is b)
-    (c .after .ensures ∙ ap₂ after (c .before .digits .ensures) (served-is b))
+    (c .position-after .ensures ∙ ap₂ positionAfter (c .before .digits .ensures) (served-is b))
 
 pub pick-spec : {M : Type 1} → statement M
-pick-spec =
-    tie.close
-    (tie.spec
-    (λ c κs. search needs) bit-requires (λ c. search needs) add-served leaf-requires (λ c κs. search needs) after-requires returns)
+pick-spec = tie.close (tie.spec (λ c κs. search needs) bit-requires (λ c. search needs) add-served leaf-requires (λ c κs. search needs)
+    position-after-requires returns)

@@ -1,5 +1,4 @@
--- `sequences::reversed` meets its contract.
--- Assumes nothing.
+-- `sequences::reversed` meets its contract. Assumes nothing.
 use mathlib.Core.Path.{_≡_, ap, _∙_}
 use Prim.Native.Nat.{ℕ, _+_, _-_, _*_, _/_, _^_}
 use native.Mathlib.Omega.{arith}
@@ -19,6 +18,5 @@ returns c =
     ap (λ (x : ℕ). x / 2 ^ (12 - a .args .j)) (twelve c) ∙ rb-from (a .args .i) 12 (a .args .j) (omega arith)
 
 pub reversed-spec : {M : Type 1} → statement M
-reversed-spec =
-    tie.close
-    (tie.spec (λ c κs. search needs) (λ c. search needs) (λ c κs. search needs) (λ c. search needs) (λ c. search needs) (λ c. search needs) returns)
+reversed-spec = tie.close (tie.spec (λ c κs. search needs) (λ c. search needs) (λ c κs. search needs) (λ c. search needs) (λ c. search needs)
+    (λ c. search needs) returns)

@@ -1,5 +1,4 @@
--- `sequences::six` meets its contract.
--- Assumes nothing.
+-- `sequences::six` meets its contract. Assumes nothing.
 use native.Mathlib.Omega.{arith}
 use borrow.Author.Needs.{needs}
 use Rattle.sequences.proofs.Reverse.{rb-split}

@@ -1,5 +1,4 @@
--- `sequences::start` meets its contract.
--- Assumes nothing.
+-- `sequences::start` meets its contract. Assumes nothing.
 use mathlib.Core.Path.{_≡_, ap, _∙_}
 use Prim.Native.Nat.{ℕ, suc, _-_, _*_, _%_, _^_, _<_}
 use native.Mathlib.Nat.{mod-le}

@@ -1,5 +1,4 @@
--- `sequences::three` meets its contract.
--- Assumes nothing.
+-- `sequences::three` meets its contract. Assumes nothing.
 use native.Mathlib.Omega.{arith}
 use borrow.Author.Needs.{needs}
 use Rattle.sequences.specs.Sequences.{rb}

@@ -1,5 +1,4 @@
--- `shares::change` meets its contract.
--- Assumes nothing.
+-- `shares::change` meets its contract. Assumes nothing.
 use mathlib.Core.Path.{sym, _∙_}
 use Rattle.orders.proofs.Laws.{made-says, taken-says}
 use Rattle.shares.specs.States.{lent}
@@ -47,11 +46,7 @@ returns-3 c =
     (simp (e, c .made .ensures, k .0), simp (e, c .made .ensures, k .0) (made-says _ _ _), simp e (k .1), simp e)
 
 pub change-spec : {M : Type 1} → statement M
-change-spec =
-    tie.close
-    (tie.spec
-    (λ c κs. search needs) (λ c κs. search needs) way-of-requires (λ c. search needs) (λ c. search needs) take-requires
-    (λ c κs. search needs) (λ c. search needs) carry-out-requires
-    (λ c κs. search needs) (λ c. search needs) (λ c. search needs) (λ c. search needs) (λ c. search needs) (λ c. search needs) returns
-    (λ c. search needs) (λ c. search needs) (λ c. search needs) (λ c. search needs) (λ c. search needs) returns-2
-    (λ c. search needs) (λ c. search needs) (λ c. search needs) (λ c. search needs) (λ c. search needs) returns-3)
+change-spec = tie.close (tie.spec (λ c κs. search needs) (λ c κs. search needs) way-of-requires (λ c. search needs) (λ c. search needs) take-requires
+    (λ c κs. search needs) (λ c. search needs) carry-out-requires (λ c κs. search needs) (λ c. search needs) (λ c. search needs) (λ c. search needs)
+    (λ c. search needs) (λ c. search needs) returns (λ c. search needs) (λ c. search needs) (λ c. search needs) (λ c. search needs)
+    (λ c. search needs) returns-2 (λ c. search needs) (λ c. search needs) (λ c. search needs) (λ c. search needs) (λ c. search needs) returns-3)

@@ -1,5 +1,4 @@
--- `shares::lacks` meets its contract.
--- Assumes nothing.
+-- `shares::lacks` meets its contract. Assumes nothing.
 use borrow.Author.Tests.{lt-ltb, le-ltb}
 use Rattle.shares.proofs.Readying.{last-lacks}
 use borrow.Author.Needs.{needs}
@@ -16,7 +15,4 @@ returns-4 : tie.Need-returns-4
 returns-4 c = last-lacks _ _ _ _ (c .before .before .if1 .left) (le-ltb _ _ (c .before .if2 .left)) (le-ltb _ _ (c .if3 .left))
 
 pub lacks-spec : {M : Type 1} → statement M
-lacks-spec =
-    tie.close
-    (tie.spec
-    (λ c. search needs) returns-2 returns-3 returns-4)
+lacks-spec = tie.close (tie.spec (λ c. search needs) returns-2 returns-3 returns-4)

@@ -1,5 +1,4 @@
--- `shares::serve` meets its contract.
--- Assumes nothing.
+-- `shares::serve` meets its contract. Assumes nothing.
 use mathlib.Core.Path.{refl}
 use Rattle.shares.proofs.Doings.{same-lent}
 use Rattle.shares.proofs.Turning.{never-refused, turn-ready, turn-done}
@@ -20,8 +19,5 @@ returns-2 c =
     (t .0, same-lent refl refl (t .1) refl)
 
 pub serve-spec : {M : Type 1} → statement M
-serve-spec =
-    tie.close
-    (tie.spec
-    (λ c κs. search needs) (λ c. search needs) (λ c. search needs) (λ c. search needs) (λ c. search needs) turn-at-requires returns
-    (λ c. search needs) returns-2)
+serve-spec = tie.close (tie.spec (λ c κs. search needs) (λ c. search needs) (λ c. search needs) (λ c. search needs) (λ c. search needs)
+    turn-at-requires returns (λ c. search needs) returns-2)

@@ -1,5 +1,4 @@
--- `shares::slot` meets its contract.
--- Assumes nothing.
+-- `shares::slot` meets its contract. Assumes nothing.
 use mathlib.Core.Path.{sym, _∙_}
 use Rattle.drives.proofs.Laws.{start-both}
 use Rattle.shares.specs.States.{lent}
@@ -32,9 +31,6 @@ returns-2 c =
     slot-done (a .own) (a .other) (lent (a .board .now) (a .rates .now) (a .owed .now) (a .owed-other .now)) (a .list .now) e _ _ (k .0) (c .before .before .before .before .before .before .before .before .before .before .before .before .before .before .before .before .before .before .before .before .before .before .before .both-start .ensures) _ (k .1) _ _ (g .0) (g .1)
 
 pub slot-spec : {M : Type 1} → statement M
-slot-spec =
-    tie.close
-    (tie.spec
-    (λ c κs. search needs) (λ c. search needs) (λ c. search needs) (λ c κs. search needs) start-requires serve-requires
-    (λ c. search needs) (λ c. search needs) (λ c. search needs) (λ c. search needs) returns
-    (λ c. search needs) (λ c. search needs) (λ c. search needs) (λ c. search needs) (λ c. search needs) returns-2)
+slot-spec = tie.close (tie.spec (λ c κs. search needs) (λ c. search needs) (λ c. search needs) (λ c κs. search needs) start-requires serve-requires
+    (λ c. search needs) (λ c. search needs) (λ c. search needs) (λ c. search needs) returns (λ c. search needs) (λ c. search needs)
+    (λ c. search needs) (λ c. search needs) (λ c. search needs) returns-2)

@@ -1,5 +1,4 @@
--- `shares::way_of` meets its contract.
--- Assumes nothing.
+-- `shares::way_of` meets its contract. Assumes nothing.
 use mathlib.Core.Path.{sym, _∙_}
 use borrow.Author.Needs.{needs}
 use Rattle.shares.proofs.way_of.Statement.{statement}
@@ -21,8 +20,5 @@ returns-4 : tie.Need-returns-4
 returns-4 c = simp (c .before .before .enum-told .given .1, sym (c .before .must-wait .ensures) ∙ c .if1 .left)
 
 pub way-of-spec : {M : Type 1} → statement M
-way-of-spec =
-    tie.close
-    (tie.spec
-    (λ c. search needs) (λ c. search needs) must-wait-requires (λ c κs. search needs) (λ c. search needs) (λ c. search needs) returns
-    returns-2 returns-3 returns-4)
+way-of-spec = tie.close (tie.spec (λ c. search needs) (λ c. search needs) must-wait-requires (λ c κs. search needs) (λ c. search needs)
+    (λ c. search needs) returns returns-2 returns-3 returns-4)

@@ -2,31 +2,26 @@
 use mathlib.Core.Path.{refl, sym, _∙_}
 use native.Mathlib.Omega.{arith}
 use borrow.Author.Needs.{needs}
-use Rattle.sheets.specs.Sheet.{capacityIn}
 use Rattle.sheets.specs.Results.{leafForm}
 use Rattle.sheets.proofs.Checked.{clear-read}
 use Rattle.sheets.proofs.read.Statement.{statement}
 use Rattle.sheets.proofs.read.Tie as tie
 
-number-at-requires : tie.Need-number-at-requires
-number-at-requires c κs =
-    let readable = clear-read leafForm _ _ (sym (c .before .before .before .before .load .ensures .0) ∙ c .enum-told .given .1) in
+capacity-of-requires : tie.Need-capacity-of-requires
+capacity-of-requires c κs =
+    let readable = clear-read leafForm _ _ (sym (c .before .before .before .before .load-leaves .ensures .0) ∙ c .enum-told .given .1) in
     omega arith
 
 returns : tie.Need-returns
 returns c =
-    let refused = sym (c .before .before .before .before .before .before .load .ensures .0) ∙ c .before .before .r .given .1 in
-    (rw (refused, c .new .ensures) refl, rw refused refl, c .before .before .before .before .before .before .load .ensures .1)
+    let refused = sym (c .before .before .before .before .before .before .load-leaves .ensures .0) ∙ c .before .before .r .given .1 in
+    (rw (refused, c .new .ensures) refl, rw refused refl, c .before .before .before .before .before .before .load-leaves .ensures .1)
 
 returns-2 : tie.Need-returns-2
-unfolding capacityIn
 returns-2 c =
-    let clear = sym (c .before .before .before .before .before .before .load .ensures .0) ∙ c .before .before .enum-told .given .1 in
-    (rw (clear, c .new2 .ensures, c .before .number-at .ensures .0) refl, rw clear refl, c .before .before .before .before .before .before .load .ensures .1)
+    let clear = sym (c .before .before .before .before .before .before .load-leaves .ensures .0) ∙ c .before .before .enum-told .given .1 in
+    (rw (clear, c .new2 .ensures, c .before .capacity-of .ensures .0) refl, rw clear refl, c .before .before .before .before .before .before .load-leaves .ensures .1)
 
 pub read-spec : {M : Type 1} → statement M
-read-spec =
-    tie.close
-    (tie.spec
-    (λ c κs. search needs) (λ c. search needs) (λ c κs. search needs) (λ c. search needs) number-at-requires
+read-spec = tie.close (tie.spec (λ c κs. search needs) (λ c. search needs) (λ c κs. search needs) (λ c. search needs) capacity-of-requires
     (λ c. search needs) (λ c κs. search needs) (λ c. search needs) returns (λ c. search needs) returns-2)

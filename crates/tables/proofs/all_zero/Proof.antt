@@ -1,5 +1,4 @@
--- `tables::all_zero` meets its contract.
--- Assumes nothing.
+-- `tables::all_zero` meets its contract. Assumes nothing.
 use borrow.Author.Needs.{needs}
 use mathlib.Core.Path.{ap, _∙_}
 use Prim.Native.Nat.{ℕ}

@@ -1,11 +1,10 @@
--- `tables::enter_rate` meets its contract.
--- Assumes nothing.
+-- `tables::enter_rate` meets its contract. Assumes nothing.
 use borrow.Author.Needs.{needs}
 use mathlib.Core.Path.{refl}
 use Prim.Native.Nat.{_<_}
 use native.Mathlib.Omega.{arith}
 use Rattle.tables.specs.Settling as settled
-use Rattle.tables.proofs.Leading.{lowest-held}
+use Rattle.tables.proofs.LowestLeaves.{lowest-held}
 use Rattle.tables.proofs.enter_rate.Statement.{statement}
 use Rattle.tables.proofs.enter_rate.Tie as tie
 
@@ -24,5 +23,4 @@ unfolding settled.ratedTable
 returns c = rw (c .lowest-leaf .ensures) refl
 
 pub enter-rate-spec : {M : Type 1} → statement M
-enter-rate-spec =
-    tie.close (tie.spec (λ c κs. search needs) mul-rates slice-write-rates (λ c. search needs) returns)
+enter-rate-spec = tie.close (tie.spec (λ c κs. search needs) mul-rates slice-write-rates (λ c. search needs) returns)

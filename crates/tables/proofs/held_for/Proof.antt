@@ -1,5 +1,4 @@
--- `tables::held_for` meets its contract.
--- Assumes nothing.
+-- `tables::held_for` meets its contract. Assumes nothing.
 use borrow.Author.Needs.{needs}
 use mathlib.Core.Path.{sym, ap, _∙_}
 use native.Mathlib.Omega.{arith}

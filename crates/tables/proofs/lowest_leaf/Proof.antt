@@ -1,11 +1,10 @@
--- `tables::lowest_leaf` meets its contract.
--- Assumes nothing.
+-- `tables::lowest_leaf` meets its contract. Assumes nothing.
 use mathlib.Core.Path.{_≡_, refl, sym}
 use Prim.Native.Nat.{_-_, _≤_}
 use native.Mathlib.Omega.{arith}
 use Rattle.pieces.specs.Board.{weight}
-use Rattle.tables.proofs.Leading.{lowest-is}
-use Rattle.tables.proofs.Noting.{none-next, none-end}
+use Rattle.tables.proofs.LowestLeaves.{lowest-is}
+use Rattle.tables.proofs.Marking.{none-next, none-end}
 use Rattle.tables.proofs.lowest_leaf.Statement.{statement}
 use Rattle.tables.proofs.lowest_leaf.Tie as tie
 
@@ -19,20 +18,8 @@ loop-holds : tie.Need-loop-holds Inv-loop μ-loop
 unfolding weight
 loop-holds c = (omega arith, refl)
 
-mul-if1 : tie.Need-mul-if1 Inv-loop μ-loop
-mul-if1 c = omega arith
-
-shared-slice-read-if1 : tie.Need-shared-slice-read-if1 Inv-loop μ-loop
-shared-slice-read-if1 c = omega arith
-
 returns : tie.Need-returns Inv-loop μ-loop
 returns c = sym (lowest-is _ _ _ _ (c .before .before .loop-test .taken) (c .if1 .taken) (c .before .before .before .loop .inv .1))
-
-add-i : tie.Need-add-i Inv-loop μ-loop
-add-i c = omega arith
-
-loop-less : tie.Need-loop-less Inv-loop μ-loop
-loop-less c = omega arith
 
 loop-again : tie.Need-loop-again Inv-loop μ-loop
 loop-again c = (omega arith, none-next _ _ _ (c .if1 .left) (c .before .before .before .loop .inv .1))
@@ -41,7 +28,5 @@ returns-2 : tie.Need-returns-2 Inv-loop μ-loop
 returns-2 c = none-end _ _ _ (c .before .loop .i) (omega arith) (omega arith) (c .before .loop .inv .1)
 
 pub lowest-leaf-spec : {M : Type 1} → statement M
-lowest-leaf-spec =
-    tie.close
-    (tie.spec
-    Inv-loop μ-loop loop-holds mul-if1 shared-slice-read-if1 returns add-i loop-less loop-again returns-2)
+lowest-leaf-spec = tie.close (tie.spec Inv-loop μ-loop loop-holds (λ c. omega arith) (λ c. omega arith) returns (λ c. omega arith) (λ c. omega arith)
+    loop-again returns-2)

@@ -1,10 +1,9 @@
--- `tables::weight_served` meets its contract.
--- Assumes nothing.
+-- `tables::weight_served` meets its contract. Assumes nothing.
 use borrow.Author.Needs.{needs}
 use mathlib.Core.Path.{_∙_}
 use Prim.Native.Nat.{_<_}
 use native.Mathlib.Omega.{arith}
-use Rattle.tables.proofs.Leading.{lowest-held}
+use Rattle.tables.proofs.LowestLeaves.{lowest-held}
 use Rattle.tables.proofs.Serves.{served-plain, served-rate}
 use Rattle.tables.proofs.weight_served.Statement.{statement}
 use Rattle.tables.proofs.weight_served.Tie as tie
@@ -29,7 +28,4 @@ returns-2 : tie.Need-returns-2
 returns-2 c = served-rate _ _ _ _ _ (c .before .before .lowest-leaf .ensures) (c .if1 .left)
 
 pub weight-served-spec : {M : Type 1} → statement M
-weight-served-spec =
-    tie.close
-    (tie.spec
-    (λ c κs. search needs) mul-r shared-slice-read-r cast-r (λ c κs. search needs) returns returns-2)
+weight-served-spec = tie.close (tie.spec (λ c κs. search needs) mul-r shared-slice-read-r cast-r (λ c κs. search needs) returns returns-2)

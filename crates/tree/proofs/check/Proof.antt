@@ -1,5 +1,4 @@
--- `tree::check` meets its contract.
--- Assumes nothing.
+-- `tree::check` meets its contract. Assumes nothing.
 use borrow.Author.Tests.{eq-eqb, ne-eqb, lt-ltb, le-ltb}
 use native.Mathlib.Omega.{arith}
 use Rattle.tree.specs.Results.{finding}

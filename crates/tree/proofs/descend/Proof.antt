@@ -1,5 +1,4 @@
--- `tree::descend` meets its contract.
--- Assumes nothing.
+-- `tree::descend` meets its contract. Assumes nothing.
 use borrow.Author.Needs.{needs}
 use mathlib.Core.Path.{_≡_, refl, _∙_}
 use Prim.Native.Nat.{zero, suc, _*_, _^_, _≤_, _<_}
@@ -54,7 +53,5 @@ returns c =
     (n, m)
 
 pub descend-spec : {M : Type 1} → statement M
-descend-spec =
-    tie.close
-    (tie.spec
-    Inv-loop μ-loop loop-holds turn-requires (λ c. search needs) (λ c. search needs) loop-again (λ c. search needs) returns)
+descend-spec = tie.close (tie.spec Inv-loop μ-loop loop-holds turn-requires (λ c. search needs) (λ c. search needs) loop-again (λ c. search needs)
+    returns)

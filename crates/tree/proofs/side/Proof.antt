@@ -1,5 +1,4 @@
--- `tree::side` meets its contract.
--- Assumes nothing.
+-- `tree::side` meets its contract. Assumes nothing.
 use mathlib.Core.Path.{_≡_}
 use native.Mathlib.Omega.{arith}
 use borrow.Author.Tests.{eq-eqb, ne-eqb}

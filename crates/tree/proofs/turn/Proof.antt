@@ -1,5 +1,4 @@
--- `tree::turn` meets its contract.
--- Assumes nothing.
+-- `tree::turn` meets its contract. Assumes nothing.
 use mathlib.Core.Path.{refl}
 use lib.ListN.{getD}
 use Rattle.tree.proofs.Descents.{side-turns}
@@ -19,9 +18,5 @@ returns c =
     (rw (c .side .ensures) (t .1), rw (c .side .ensures, t .2) refl)
 
 pub turn-spec : {M : Type 1} → statement M
-turn-spec =
-    tie.close
-    (tie.spec
-    (λ c. search needs) (λ c. search needs) (λ c κs. search needs) sub-flipped
-    (λ c. search needs) (λ c. search needs) (λ c. search needs) (λ c. search needs) (λ c. search needs) (λ c. search needs)
-    (λ c. search needs) returns)
+turn-spec = tie.close (tie.spec (λ c. search needs) (λ c. search needs) (λ c κs. search needs) sub-flipped (λ c. search needs) (λ c. search needs)
+    (λ c. search needs) (λ c. search needs) (λ c. search needs) (λ c. search needs) (λ c. search needs) returns)

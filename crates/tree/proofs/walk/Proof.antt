@@ -1,5 +1,4 @@
--- `tree::walk` meets its contract.
--- Assumes nothing.
+-- `tree::walk` meets its contract. Assumes nothing.
 use borrow.Author.Needs.{needs}
 use mathlib.Core.Path.{sym, _∙_}
 use Prim.Native.Nat.{_-_, _≤_, _<_}
@@ -60,8 +59,5 @@ returns-3 c =
     (simp (e, r .0), simp (e, r .0), simp (e, r .1))
 
 pub walk-spec : {M : Type 1} → statement M
-walk-spec =
-    tie.close
-    (tie.spec
-    (λ c κs. search needs) (λ c. search needs) (λ c. search needs) (λ c. search needs) cast-descend descend-requires sub-leaf sub-leaf-2
-    mul-name shared-slice-read-name cast-leaf returns returns-2 (λ c. search needs) returns-3)
+walk-spec = tie.close (tie.spec (λ c κs. search needs) (λ c. search needs) (λ c. search needs) (λ c. search needs) cast-descend descend-requires
+    sub-leaf sub-leaf-2 mul-name shared-slice-read-name cast-leaf returns returns-2 (λ c. search needs) returns-3)

@@ -1,5 +1,4 @@
--- `tree_cases::clear_marks` meets its contract.
--- Assumes nothing.
+-- `tree_cases::clear_marks` meets its contract. Assumes nothing.
 use borrow.Author.Needs.{needs}
 use mathlib.Core.Path.{_≡_}
 use Prim.Native.Nat.{_-_, _≤_}
@@ -14,8 +13,5 @@ abbrev μ-loop : tie.MeasureT-loop
 μ-loop marks₀ c i₀ marks i = length marks₀ - i
 
 pub clear-marks-spec : {M : Type 1} → statement M
-clear-marks-spec =
-    tie.close
-    (tie.spec
-    Inv-loop μ-loop (λ c. search needs) (λ c. search needs) (λ c. search needs) (λ c. search needs) (λ c. search needs) (λ c. search needs)
-    (λ c. search needs) (λ c. search needs) (λ c. search needs))
+clear-marks-spec = tie.close (tie.spec Inv-loop μ-loop (λ c. search needs) (λ c. search needs) (λ c. search needs) (λ c. search needs)
+    (λ c. search needs) (λ c. search needs) (λ c. search needs) (λ c. search needs) (λ c. search needs))

@@ -1,5 +1,4 @@
--- `tree_cases::name_leaves` meets its contract.
--- Assumes nothing.
+-- `tree_cases::name_leaves` meets its contract. Assumes nothing.
 use borrow.Author.Needs.{needs}
 use mathlib.Core.Path.{_≡_}
 use Prim.Native.Nat.{_-_, _≤_}
@@ -14,8 +13,5 @@ abbrev μ-loop : tie.MeasureT-loop
 μ-loop board₀ i₀ board i = length board₀ - i
 
 pub name-leaves-spec : {M : Type 1} → statement M
-name-leaves-spec =
-    tie.close
-    (tie.spec
-    Inv-loop μ-loop (λ c. search needs) (λ c. search needs) (λ c. search needs) (λ c. search needs) (λ c. search needs) (λ c. search needs)
-    (λ c. search needs) (λ c. search needs) (λ c. search needs) (λ c. search needs))
+name-leaves-spec = tie.close (tie.spec Inv-loop μ-loop (λ c. search needs) (λ c. search needs) (λ c. search needs) (λ c. search needs)
+    (λ c. search needs) (λ c. search needs) (λ c. search needs) (λ c. search needs) (λ c. search needs) (λ c. search needs))

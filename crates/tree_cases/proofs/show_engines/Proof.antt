@@ -1,5 +1,4 @@
--- `tree_cases::show_engines` meets its contract.
--- Assumes nothing.
+-- `tree_cases::show_engines` meets its contract. Assumes nothing.
 use borrow.Author.Needs.{needs}
 use Prim.Native.Nat.{_-_, _≤_}
 use Rattle.tree_cases.proofs.show_engines.Statement.{statement}
@@ -12,6 +11,5 @@ abbrev μ-loop : tie.MeasureT-loop
 μ-loop board marks₀ c₀ marks c = 4096 - c
 
 pub show-engines-spec : {M : Type 1} → statement M
-show-engines-spec =
-    tie.close
-    (tie.spec Inv-loop μ-loop (λ c. search needs) (λ c κs. search needs) (λ c. search needs) (λ c. search needs) (λ c. search needs) (λ c. search needs))
+show-engines-spec = tie.close (tie.spec Inv-loop μ-loop (λ c. search needs) (λ c κs. search needs) (λ c. search needs) (λ c. search needs)
+    (λ c. search needs) (λ c. search needs))

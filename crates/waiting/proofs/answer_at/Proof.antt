@@ -1,5 +1,4 @@
--- `waiting::answer_at` meets its contract.
--- Assumes nothing.
+-- `waiting::answer_at` meets its contract. Assumes nothing.
 use borrow.Author.Needs.{needs}
 use mathlib.Core.Path.{refl}
 use native.Mathlib.Omega.{arith}
@@ -16,8 +15,5 @@ unfolding answeredAt
 returns c = refl
 
 pub answer-at-spec : {M : Type 1} → statement M
-answer-at-spec =
-    tie.close
-    (tie.spec
-    (λ c. search needs) (λ c. search needs) (λ c. search needs) (λ c. search needs) (λ c. search needs) (λ c. search needs)
-    slice-write-list-2 (λ c. search needs) returns)
+answer-at-spec = tie.close (tie.spec (λ c. search needs) (λ c. search needs) (λ c. search needs) (λ c. search needs) (λ c. search needs)
+    (λ c. search needs) slice-write-list-2 (λ c. search needs) returns)

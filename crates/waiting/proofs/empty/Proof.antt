@@ -1,5 +1,4 @@
--- `waiting::empty` meets its contract.
--- Assumes nothing.
+-- `waiting::empty` meets its contract. Assumes nothing.
 use borrow.Author.Needs.{needs}
 use Rattle.waiting.specs.Layout.{emptied}
 use Rattle.waiting.proofs.empty.Statement.{statement}

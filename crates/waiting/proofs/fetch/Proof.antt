@@ -1,5 +1,4 @@
--- `waiting::fetch` meets its contract.
--- Assumes nothing.
+-- `waiting::fetch` meets its contract. Assumes nothing.
 use borrow.Author.Needs.{needs}
 use borrow.Author.Tests.{lt-ltb, le-ltb}
 use mathlib.Core.Path.{sym, _∙_}
@@ -38,8 +37,5 @@ returns-4 c =
     (simp (l, e, c .before .before .before .before .outcome-at .ensures), simp (l, e, c .before .before .drop-at .ensures))
 
 pub fetch-spec : {M : Type 1} → statement M
-fetch-spec =
-    tie.close
-    (tie.spec
-    returns (λ c κs. search needs) (λ c. search needs) (λ c. search needs) (λ c. search needs) outcome-at-requires drop-at-requires
-    (λ c. search needs) returns-2 (λ c. search needs) returns-3 (λ c. search needs) returns-4)
+fetch-spec = tie.close (tie.spec returns (λ c κs. search needs) (λ c. search needs) (λ c. search needs) (λ c. search needs) outcome-at-requires
+    drop-at-requires (λ c. search needs) returns-2 (λ c. search needs) returns-3 (λ c. search needs) returns-4)

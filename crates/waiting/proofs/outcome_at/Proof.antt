@@ -1,5 +1,4 @@
--- `waiting::outcome_at` meets its contract.
--- Assumes nothing.
+-- `waiting::outcome_at` meets its contract. Assumes nothing.
 use borrow.Author.Needs.{needs}
 use mathlib.Core.Path.{refl}
 use Rattle.waiting.specs.Layout.{outcomeAt}
@@ -11,8 +10,5 @@ unfolding outcomeAt
 returns c = refl
 
 pub outcome-at-spec : {M : Type 1} → statement M
-outcome-at-spec =
-    tie.close
-    (tie.spec
-    (λ c. search needs) (λ c. search needs) (λ c. search needs) (λ c. search needs) (λ c. search needs) (λ c. search needs)
-    (λ c. search needs) returns)
+outcome-at-spec = tie.close (tie.spec (λ c. search needs) (λ c. search needs) (λ c. search needs) (λ c. search needs) (λ c. search needs)
+    (λ c. search needs) (λ c. search needs) returns)

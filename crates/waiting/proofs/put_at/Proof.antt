@@ -1,5 +1,4 @@
--- `waiting::put_at` meets its contract.
--- Assumes nothing.
+-- `waiting::put_at` meets its contract. Assumes nothing.
 use borrow.Author.Needs.{needs}
 use mathlib.Core.Path.{refl}
 use native.Mathlib.Omega.{arith}
@@ -22,9 +21,6 @@ unfolding putAt
 returns c = refl
 
 pub put-at-spec : {M : Type 1} → statement M
-put-at-spec =
-    tie.close
-    (tie.spec
-    (λ c. search needs) (λ c. search needs) (λ c. search needs) (λ c. search needs) (λ c. search needs) (λ c. search needs)
-    (λ c. search needs) slice-write-list-2 (λ c. search needs) (λ c. search needs) (λ c. search needs) slice-write-list-3
+put-at-spec = tie.close (tie.spec (λ c. search needs) (λ c. search needs) (λ c. search needs) (λ c. search needs) (λ c. search needs)
+    (λ c. search needs) (λ c. search needs) slice-write-list-2 (λ c. search needs) (λ c. search needs) (λ c. search needs) slice-write-list-3
     (λ c. search needs) (λ c. search needs) (λ c. search needs) slice-write-list-4 (λ c. search needs) returns)

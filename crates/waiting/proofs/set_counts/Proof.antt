@@ -1,5 +1,4 @@
--- `waiting::set_counts` meets its contract.
--- Assumes nothing.
+-- `waiting::set_counts` meets its contract. Assumes nothing.
 use borrow.Author.Needs.{needs}
 use mathlib.Core.Path.{refl}
 use native.Mathlib.Omega.{arith}

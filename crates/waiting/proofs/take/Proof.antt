@@ -1,5 +1,4 @@
--- `waiting::take` meets its contract.
--- Assumes nothing.
+-- `waiting::take` meets its contract. Assumes nothing.
 use borrow.Author.Needs.{needs}
 use native.Mathlib.Omega.{arith}
 use lib.ListN.{length-set}
@@ -34,9 +33,6 @@ returns-3 c =
     (simp f, simp f)
 
 pub take-spec : {M : Type 1} → statement M
-take-spec =
-    tie.close
-    (tie.spec
-    (λ c κs. search needs) (λ c. search needs) (λ c. search needs) (λ c. search needs) (λ c κs. search needs) (λ c. search needs)
-    (λ c. search needs) (λ c. search needs) set-counts-requires (λ c. search needs) same-length returns (λ c. search needs) returns-2
-    (λ c. search needs) returns-3)
+take-spec = tie.close (tie.spec (λ c κs. search needs) (λ c. search needs) (λ c. search needs) (λ c. search needs) (λ c κs. search needs)
+    (λ c. search needs) (λ c. search needs) (λ c. search needs) set-counts-requires (λ c. search needs) same-length returns (λ c. search needs)
+    returns-2 (λ c. search needs) returns-3)

@@ -1,5 +1,4 @@
--- `calls::Drive::add_by` meets its contract.
--- Assumes nothing.
+-- `calls::Drive::add_by` meets its contract. Assumes nothing.
 use borrow.Author.Needs.{needs}
 use mathlib.Core.Path.{sym, _∙_}
 use native.Mathlib.Omega.{arith}
@@ -27,8 +26,5 @@ returns-3 : tie.Need-returns-3
 returns-3 c = add-room _ _ _ _ (sym (c .before .before .before .before .before .before .before .before .before .before .check-admit .ensures) ∙ c .before .before .before .before .before .before .before .before .enum-told .given .1) _ _ (c .before .before .before .before .before .admit .ensures .1) (sym (c .before .idle .given .1) ∙ c .before .before .before .before .before .admit .ensures .0)
 
 pub add-by-spec : {M : Type 1} → statement M
-add-by-spec =
-    tie.close
-    (tie.spec
-    (λ c κs. search needs) (λ c. search needs) (λ c. search needs) (λ c. search needs) admit-requires (λ c. search needs) cast-t20
-    (λ c. search needs) cast-t22 (λ c. search needs) returns (λ c. search needs) returns-2 (λ c. search needs) returns-3)
+add-by-spec = tie.close (tie.spec (λ c κs. search needs) (λ c. search needs) (λ c. search needs) (λ c. search needs) admit-requires
+    (λ c. search needs) cast-t20 (λ c. search needs) cast-t22 (λ c. search needs) returns (λ c. search needs) returns-2 (λ c. search needs) returns-3)

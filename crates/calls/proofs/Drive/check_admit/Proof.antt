@@ -1,5 +1,4 @@
--- `calls::Drive::check_admit` meets its contract.
--- Assumes nothing.
+-- `calls::Drive::check_admit` meets its contract. Assumes nothing.
 use borrow.Author.Needs.{needs}
 use mathlib.Core.Path.{sym, _∙_}
 use Rattle.calls.proofs.Checking.{admit-parts, change-slot, slot-sized}
@@ -19,6 +18,4 @@ returns-2 c =
     c .check-new .ensures ∙ simp (admit-parts, sym (c .before .before .before .before .before .pre) ∙ c .before .before .enum-told .given .1)
 
 pub check-admit-spec : {M : Type 1} → statement M
-check-admit-spec =
-    tie.close
-    (tie.spec (λ c. search needs) (λ c. search needs) (λ c. search needs) check-new-requires returns returns-2)
+check-admit-spec = tie.close (tie.spec (λ c. search needs) (λ c. search needs) (λ c. search needs) check-new-requires returns returns-2)

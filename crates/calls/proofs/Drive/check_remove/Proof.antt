@@ -1,5 +1,4 @@
--- `calls::Drive::check_remove` meets its contract.
--- Assumes nothing.
+-- `calls::Drive::check_remove` meets its contract. Assumes nothing.
 use borrow.Author.Needs.{needs}
 use mathlib.Core.Path.{sym, _∙_}
 use Rattle.calls.proofs.Checking.{remove-parts, change-slot, slot-sized}
@@ -19,6 +18,4 @@ returns-2 c =
     c .check-held .ensures ∙ simp (remove-parts, sym (c .before .before .before .before .before .pre) ∙ c .before .before .enum-told .given .1)
 
 pub check-remove-spec : {M : Type 1} → statement M
-check-remove-spec =
-    tie.close
-    (tie.spec (λ c. search needs) (λ c. search needs) (λ c. search needs) check-held-requires returns returns-2)
+check-remove-spec = tie.close (tie.spec (λ c. search needs) (λ c. search needs) (λ c. search needs) check-held-requires returns returns-2)

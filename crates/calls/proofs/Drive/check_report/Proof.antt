@@ -1,5 +1,4 @@
--- `calls::Drive::check_report` meets its contract.
--- Assumes nothing.
+-- `calls::Drive::check_report` meets its contract. Assumes nothing.
 use borrow.Author.Needs.{needs}
 use mathlib.Core.Path.{sym, _∙_}
 use Rattle.calls.proofs.Checking.{report-parts, slot-sized}
@@ -20,18 +19,13 @@ returns : tie.Need-returns
 returns c = simp (report-parts, sym (c .before .before .before .check-slot .ensures) ∙ c .before .r .given .1)
 
 returns-2 : tie.Need-returns-2
-returns-2 c =
-    simp
+returns-2 c = simp
     (report-parts, sym (c .before .before .before .before .before .before .before .check-slot .ensures) ∙ c .before .before .before .before .before .enum-told .given .1, sym (c .before .before .before .check-good .ensures) ∙ c .before .r2 .given .1)
 
 returns-3 : tie.Need-returns-3
-returns-3 c =
-    c .check-held .ensures
+returns-3 c = c .check-held .ensures
     ∙ simp (report-parts, sym (c .before .before .before .before .before .before .before .check-slot .ensures) ∙ c .before .before .before .before .before .enum-told .given .1, sym (c .before .before .before .check-good .ensures) ∙ c .before .enum-told2 .given .1)
 
 pub check-report-spec : {M : Type 1} → statement M
-check-report-spec =
-    tie.close
-    (tie.spec
-    (λ c κs. search needs) (λ c. search needs) (λ c. search needs) (λ c. search needs) check-good-requires
+check-report-spec = tie.close (tie.spec (λ c κs. search needs) (λ c. search needs) (λ c. search needs) (λ c. search needs) check-good-requires
     (λ c. search needs) (λ c. search needs) check-held-requires returns returns-2 returns-3)

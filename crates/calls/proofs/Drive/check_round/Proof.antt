@@ -1,5 +1,4 @@
--- `calls::Drive::check_round` meets its contract.
--- Assumes nothing.
+-- `calls::Drive::check_round` meets its contract. Assumes nothing.
 use borrow.Author.Needs.{needs}
 use borrow.Author.Tests.{lt-ltb, le-ltb}
 use mathlib.Core.Path.{sym, _∙_}
@@ -17,6 +16,4 @@ returns-3 : tie.Need-returns-3
 returns-3 c = simp (round-parts, sym (c .before .before .before .before .check-slot .ensures) ∙ c .before .before .enum-told .given .1, le-ltb _ _ (c .if1 .left))
 
 pub check-round-spec : {M : Type 1} → statement M
-check-round-spec =
-    tie.close
-    (tie.spec (λ c κs. search needs) (λ c. search needs) (λ c. search needs) (λ c. search needs) returns returns-2 returns-3)
+check-round-spec = tie.close (tie.spec (λ c κs. search needs) (λ c. search needs) (λ c. search needs) (λ c. search needs) returns returns-2 returns-3)

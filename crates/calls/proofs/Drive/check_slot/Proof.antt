@@ -1,5 +1,4 @@
--- `calls::Drive::check_slot` meets its contract.
--- Assumes nothing.
+-- `calls::Drive::check_slot` meets its contract. Assumes nothing.
 use borrow.Author.Needs.{needs}
 use mathlib.Core.Path.{sym, _∙_}
 use Rattle.calls.proofs.Checking.{slot-parts, open-clear}
@@ -15,13 +14,9 @@ returns : tie.Need-returns
 returns c = simp (slot-parts, sym (c .before .before .before .check-open .ensures) ∙ c .before .r .given .1)
 
 returns-2 : tie.Need-returns-2
-returns-2 c =
-    c .check-position .ensures
+returns-2 c = c .check-position .ensures
     ∙ simp (slot-parts, sym (c .before .before .before .before .check-open .ensures) ∙ c .before .before .enum-told .given .1)
 
 pub check-slot-spec : {M : Type 1} → statement M
-check-slot-spec =
-    tie.close
-    (tie.spec
-    (λ c. search needs) (λ c κs. search needs) (λ c. search needs) (λ c. search needs) (λ c. search needs) check-position-requires returns
-    returns-2)
+check-slot-spec = tie.close (tie.spec (λ c. search needs) (λ c κs. search needs) (λ c. search needs) (λ c. search needs) (λ c. search needs)
+    check-position-requires returns returns-2)

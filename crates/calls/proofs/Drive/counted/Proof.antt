@@ -1,5 +1,4 @@
--- `calls::Drive::counted` meets its contract.
--- Assumes nothing.
+-- `calls::Drive::counted` meets its contract. Assumes nothing.
 use borrow.Author.Needs.{needs}
 use native.Mathlib.Omega.{arith}
 use Rattle.calls.proofs.Checking.{count-small}

@@ -1,5 +1,4 @@
--- `calls::Drive::fresh` meets its contract.
--- Assumes nothing.
+-- `calls::Drive::fresh` meets its contract. Assumes nothing.
 use borrow.Author.Needs.{needs}
 use mathlib.Core.Path.{sym, _∙_}
 use Rattle.calls.proofs.Checking.{slot-sized, change-slot, change-good}
@@ -23,8 +22,5 @@ returns-2 c =
     (simp e, simp e, simp (e, c .before .before .lay-out .ensures))
 
 pub fresh-spec : {M : Type 1} → statement M
-fresh-spec =
-    tie.close
-    (tie.spec
-    (λ c κs. search needs) (λ c. search needs) (λ c. search needs) (λ c. search needs) lay-out-requires (λ c. search needs) returns
-    (λ c. search needs) returns-2)
+fresh-spec = tie.close (tie.spec (λ c κs. search needs) (λ c. search needs) (λ c. search needs) (λ c. search needs) lay-out-requires
+    (λ c. search needs) returns (λ c. search needs) returns-2)

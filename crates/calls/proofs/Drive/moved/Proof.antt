@@ -1,5 +1,4 @@
--- `calls::Drive::moved` meets its contract.
--- Assumes nothing.
+-- `calls::Drive::moved` meets its contract. Assumes nothing.
 use mathlib.Core.Path.{_≡_}
 use native.Mathlib.Omega.{arith}
 use borrow.Author.Needs.{needs}

@@ -1,5 +1,4 @@
--- `calls::Drive::remove_by` meets its contract.
--- Assumes nothing.
+-- `calls::Drive::remove_by` meets its contract. Assumes nothing.
 use borrow.Author.Needs.{needs}
 use mathlib.Core.Path.{sym, _∙_}
 use native.Mathlib.Omega.{arith}
@@ -29,8 +28,5 @@ returns-2 c =
     (simp (e, c .counted .ensures, p), simp (e, c .counted .ensures, p), simp (e, p))
 
 pub remove-by-spec : {M : Type 1} → statement M
-remove-by-spec =
-    tie.close
-    (tie.spec
-    (λ c κs. search needs) (λ c. search needs) (λ c. search needs) (λ c. search needs) remove-requires counted-requires (λ c. search needs)
-    returns (λ c. search needs) returns-2)
+remove-by-spec = tie.close (tie.spec (λ c κs. search needs) (λ c. search needs) (λ c. search needs) (λ c. search needs) remove-requires
+    counted-requires (λ c. search needs) returns (λ c. search needs) returns-2)

@@ -1,5 +1,4 @@
--- `calls::Drive::report` meets its contract.
--- Assumes nothing.
+-- `calls::Drive::report` meets its contract. Assumes nothing.
 use borrow.Author.Needs.{needs}
 use mathlib.Core.Path.{_≡_, sym, _∙_}
 use native.Mathlib.Omega.{arith}
@@ -67,8 +66,5 @@ returns-2 c =
     (simp (e, c .before .weigh .ensures, c .spacing .ensures, n), simp (e, c .before .weigh .ensures, c .spacing .ensures, n))
 
 pub report-spec : {M : Type 1} → statement M
-report-spec =
-    tie.close
-    (tie.spec
-    (λ c κs. search needs) (λ c. search needs) (λ c. search needs) (λ c. search needs) weigh-requires spacing-requires cast-t11 cast-t13
-    cast-t14 returns returns-2)
+report-spec = tie.close (tie.spec (λ c κs. search needs) (λ c. search needs) (λ c. search needs) (λ c. search needs) weigh-requires spacing-requires
+    cast-t11 cast-t13 cast-t14 returns returns-2)

@@ -1,5 +1,4 @@
--- `calls::Drive::round` meets its contract.
--- Assumes nothing.
+-- `calls::Drive::round` meets its contract. Assumes nothing.
 use borrow.Author.Needs.{needs}
 use mathlib.Core.Path.{sym, _∙_}
 use native.Mathlib.Omega.{arith}
@@ -25,8 +24,5 @@ returns-2 c =
     (simp e, simp e, simp (e, c .before .before .write-round .ensures))
 
 pub round-spec : {M : Type 1} → statement M
-round-spec =
-    tie.close
-    (tie.spec
-    (λ c κs. search needs) (λ c. search needs) (λ c. search needs) (λ c. search needs) write-round-requires returns (λ c. search needs)
-    returns-2)
+round-spec = tie.close (tie.spec (λ c κs. search needs) (λ c. search needs) (λ c. search needs) (λ c. search needs) write-round-requires returns
+    (λ c. search needs) returns-2)

@@ -1,5 +1,4 @@
--- `calls::Drive::slot` meets its contract.
--- Assumes nothing.
+-- `calls::Drive::slot` meets its contract. Assumes nothing.
 use borrow.Author.Needs.{needs}
 use mathlib.Core.Path.{_≡_, sym, _∙_}
 use native.Mathlib.Omega.{arith}
@@ -58,8 +57,5 @@ returns-2 c =
     (simp (e, c .before .before .moved .ensures, c .before .before .before .before .pick .ensures), simp (e, c .before .before .before .before .pick .ensures))
 
 pub slot-spec : {M : Type 1} → statement M
-slot-spec =
-    tie.close
-    (tie.spec
-    (λ c κs. search needs) (λ c. search needs) (λ c. search needs) (λ c. search needs) (λ c. search needs) pick-requires cast-moved
-    (λ c κs. search needs) mul-t10 shared-slice-read-t12 cast-t14 cast-t15 returns returns-2)
+slot-spec = tie.close (tie.spec (λ c κs. search needs) (λ c. search needs) (λ c. search needs) (λ c. search needs) (λ c. search needs) pick-requires
+    cast-moved (λ c κs. search needs) mul-t10 shared-slice-read-t12 cast-t14 cast-t15 returns returns-2)

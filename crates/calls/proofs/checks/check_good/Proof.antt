@@ -1,5 +1,4 @@
--- `calls::checks::check_good` meets its contract.
--- Assumes nothing.
+-- `calls::checks::check_good` meets its contract. Assumes nothing.
 use borrow.Author.Needs.{needs}
 use mathlib.Core.Path.{sym, _∙_}
 use Rattle.calls.specs.Refusals.{goodCheck}

@@ -1,5 +1,4 @@
--- `calls::checks::check_open` meets its contract.
--- Assumes nothing.
+-- `calls::checks::check_open` meets its contract. Assumes nothing.
 use borrow.Author.Tests.{eq-eqb, ne-eqb, lt-ltb, le-ltb}
 use Rattle.calls.specs.Refusals.{openCheck}
 use Rattle.calls.proofs.checks.check_open.Statement.{statement}

@@ -1,11 +1,10 @@
--- `calls::checks::check_position` meets its contract.
--- Assumes nothing.
+-- `calls::checks::check_position` meets its contract. Assumes nothing.
 use borrow.Author.Needs.{needs}
 use borrow.Author.Tests.{eq-eqb, ne-eqb, lt-ltb, le-ltb}
 use mathlib.Core.Path.{_≡_}
 use Prim.Native.Nat.{_*_, _%_, _^_}
 use native.Mathlib.Omega.{arith}
-use Rattle.sequences.specs.Board.{digits}
+use Rattle.sequences.specs.SlotOrder.{digits}
 use Rattle.calls.specs.Refusals.{positionCheck}
 use Rattle.calls.proofs.Checking.{order}
 use Rattle.calls.proofs.checks.check_position.Statement.{statement}

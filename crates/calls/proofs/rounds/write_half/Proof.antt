@@ -1,5 +1,4 @@
--- `calls::rounds::write_half` meets its contract.
--- Assumes nothing.
+-- `calls::rounds::write_half` meets its contract. Assumes nothing.
 use borrow.Author.Needs.{needs}
 use mathlib.Core.Path.{_≡_, refl, sym, _∙_}
 use Prim.Native.Nat.{_+_, _-_, _*_, _/_, _%_, _^_, _≤_, _<_}
@@ -133,9 +132,6 @@ returns c =
     rw all at (L .inv .3) ∙ leaves-over _ _ _ _ _ (begun s) (omega arith)
 
 pub write-half-spec : {M : Type 1} → statement M
-write-half-spec =
-    tie.close
-    (tie.spec
-    Inv-loop μ-loop (λ c. search needs) (λ c. search needs) (λ c. search needs) (λ c. search needs) mul-output add-output mul-output-2
-    cast-output mul-output-3 slice-write-output cast-further add-i loop-holds (λ c. search needs) mul-output-4 slice-read-output
-    add-output-2 mul-output-5 slice-write-output-2 add-i-2 (λ c. search needs) loop-again same-length returns)
+write-half-spec = tie.close (tie.spec Inv-loop μ-loop (λ c. search needs) (λ c. search needs) (λ c. search needs) (λ c. search needs) mul-output
+    add-output mul-output-2 cast-output mul-output-3 slice-write-output cast-further add-i loop-holds (λ c. search needs) mul-output-4
+    slice-read-output add-output-2 mul-output-5 slice-write-output-2 add-i-2 (λ c. search needs) loop-again same-length returns)

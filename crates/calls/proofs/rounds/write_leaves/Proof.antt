@@ -1,21 +1,19 @@
--- `calls::rounds::write_leaves` meets its contract.
--- Assumes nothing.
+-- `calls::rounds::write_leaves` meets its contract. Assumes nothing.
 use borrow.Author.Needs.{needs}
 use mathlib.Core.Path.{_≡_, refl, sym, ap, _∙_}
 use Prim.Native.Nat.{ℕ, suc, _-_, _/_, _^_, _≤_, _<_}
 use native.Mathlib.Nat.{div-one}
 use native.Mathlib.Omega.{arith}
 use lib.ListN.{length, set, length-set}
-use Rattle.sequences.specs.Board.{digits}
-use Rattle.sequences.proofs.Laws.{digits-small}
-use Rattle.calls.proofs.Doubling.{halved, some-digit, top, first-leaf}
+use Rattle.sequences.specs.SlotOrder.{digits}
+use Rattle.sequences.proofs.Laws.{digits-small, digits-pos}
+use Rattle.calls.proofs.Doubling.{halved, top, first-leaf}
 use Rattle.calls.proofs.Writing.{leavesOver, leaves-none, leaves-next, leaves-over, leaves-self}
 use Rattle.calls.proofs.rounds.write_leaves.Statement.{statement}
 use Rattle.calls.proofs.rounds.write_leaves.Tie as tie
 
 abbrev Inv-loop : tie.InvT-loop
-Inv-loop c output₀ k₀ output k =
-    (k < 64) × (1 ≤ c / 2 ^ k) × (length output ≡ length output₀) × (output ≡ leavesOver c (c / 2 ^ k) output₀)
+Inv-loop c output₀ k₀ output k = (k < 64) × (1 ≤ c / 2 ^ k) × (length output ≡ length output₀) × (output ≡ leavesOver c (c / 2 ^ k) output₀)
 
 abbrev μ-loop : tie.MeasureT-loop
 μ-loop c output₀ k₀ output k = k
@@ -35,7 +33,7 @@ slice-write-output : tie.Need-slice-write-output Inv-loop μ-loop
 slice-write-output c = let at = c .before .pre .0 in let some = at .some in omega arith
 
 sub-k : tie.Need-sub-k Inv-loop μ-loop
-sub-k c = let at = c .before .before .pre .0 in omega (arith, c .digits .ensures, some-digit (c .before .before .args .c) (at .some))
+sub-k c = let at = c .before .before .pre .0 in omega (arith, c .digits .ensures, digits-pos (c .before .before .args .c) (at .some))
 
 loop-holds : tie.Need-loop-holds Inv-loop μ-loop
 loop-holds c =
@@ -85,8 +83,5 @@ returns c =
     rw (z, div-one C) at (L .inv .3) ∙ leaves-over C 1 C (s .args .output .now) _ (begun s) (omega arith)
 
 pub write-leaves-spec : {M : Type 1} → statement M
-write-leaves-spec =
-    tie.close
-    (tie.spec
-    Inv-loop μ-loop slice-write-output (λ c κs. search needs) sub-k loop-holds (λ c. search needs) write-half-requires (λ c. search needs)
-    loop-again same-length returns)
+write-leaves-spec = tie.close (tie.spec Inv-loop μ-loop slice-write-output (λ c κs. search needs) sub-k loop-holds (λ c. search needs)
+    write-half-requires (λ c. search needs) loop-again same-length returns)

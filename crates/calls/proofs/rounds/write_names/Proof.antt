@@ -1,5 +1,4 @@
--- `calls::rounds::write_names` meets its contract.
--- Assumes nothing.
+-- `calls::rounds::write_names` meets its contract. Assumes nothing.
 use borrow.Author.Needs.{needs}
 use mathlib.Core.Path.{_≡_, ap, _∙_}
 use Prim.Native.Nat.{ℕ, _-_, _≤_, _<_}
@@ -57,8 +56,5 @@ returns c =
     rw e at (c .before .loop .inv .2)
 
 pub write-names-spec : {M : Type 1} → statement M
-write-names-spec =
-    tie.close
-    (tie.spec
-    Inv-loop μ-loop loop-holds (λ c. search needs) (λ c. search needs) cast-at mul-output shared-slice-read-output
+write-names-spec = tie.close (tie.spec Inv-loop μ-loop loop-holds (λ c. search needs) (λ c. search needs) cast-at mul-output shared-slice-read-output
     (λ c. search needs) (λ c. search needs) (λ c. search needs) (λ c. search needs) loop-again (λ c. search needs) returns)

@@ -1,5 +1,4 @@
--- `calls::rounds::write_round` meets its contract.
--- Assumes nothing.
+-- `calls::rounds::write_round` meets its contract. Assumes nothing.
 use borrow.Author.Needs.{needs}
 use mathlib.Core.Path.{ap, _∙_}
 use mathlib.Core.List.{List, _++_}
@@ -25,5 +24,4 @@ returns c =
     (leaves-past (a .c) (a .c) (a .c) _ _ (c .before .before .before .before .before .before .write-leaves .ensures) (omega arith))
 
 pub write-round-spec : {M : Type 1} → statement M
-write-round-spec =
-    tie.close (tie.spec (λ c κs. search needs) write-names-requires (λ c. search needs) returns)
+write-round-spec = tie.close (tie.spec (λ c κs. search needs) write-names-requires (λ c. search needs) returns)

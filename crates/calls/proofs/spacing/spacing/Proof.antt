@@ -1,12 +1,11 @@
--- `calls::spacing::spacing` meets its contract.
--- Assumes nothing.
+-- `calls::spacing::spacing` meets its contract. Assumes nothing.
 use borrow.Author.Needs.{needs}
 use mathlib.Core.Path.{_≡_, ap, _∙_}
 use mathlib.Core.Logic.{⊎-elim}
 use Prim.Native.Nat.{_-_, _≤_, _<_}
 use native.Mathlib.Numerals.{add-one}
 use native.Mathlib.Omega.{arith}
-use Rattle.sequences.specs.Board.{leafAt, servedFrom, nextFrom, Position}
+use Rattle.sequences.specs.SlotOrder.{leafAt, servedFrom, nextFrom, Position}
 use Rattle.sequences.specs.Serving.{afterSlots}
 use Rattle.sequences.specs.declared.Slot.{Slot}
 use Rattle.sequences.proofs.Laws.{after-more-slots, after-slots-valid, leaf-below}
@@ -90,8 +89,5 @@ returns c =
     c .around .ensures ∙ seen-all (a .args .c) (a .args .board .now) (a .pre .0 .few) (a .args .name) (a .pre .2) (L .seen) (rw e at (L .inv .2))
 
 pub spacing-spec : {M : Type 1} → statement M
-spacing-spec =
-    tie.close
-    (tie.spec
-    Inv-loop μ-loop (λ c κs. search needs) loop-holds pick-requires mul-if1 shared-slice-read-if1 served-at-requires
+spacing-spec = tie.close (tie.spec Inv-loop μ-loop (λ c κs. search needs) loop-holds pick-requires mul-if1 shared-slice-read-if1 served-at-requires
     (λ c. search needs) (λ c. search needs) loop-again around-requires returns)

@@ -1,5 +1,5 @@
 -- `mandrozsi_share_fresh` meets its contract. Assumes nothing.
-use Rattle.calls.specs.declared.Refreshed.{Refreshed}
+use Rattle.calls.specs.declared.Checked.{Checked}
 use Rattle.replies.proofs.Laws.{replied}
 use borrow.Author.Needs.{needs}
 use Rattle.exports.proofs.sharing.mandrozsi_share_fresh.Statement.{statement}
@@ -8,10 +8,8 @@ use Rattle.exports.proofs.sharing.mandrozsi_share_fresh.Tie as tie
 returns : tie.Need-returns
 returns c =
     let p = c .before .before .before .before .before .before .before .before .before .fresh .ensures in
-    (replied (λ (r : Refreshed). r .drive) (c .of-refreshed .ensures) (p .0) (p .1), p .2)
+    (replied (λ (r : Checked). r .drive) (c .of-checked .ensures) (p .0) (p .1), p .2)
 
 pub mandrozsi-share-fresh-spec : {M : Type 1} → statement M
-mandrozsi-share-fresh-spec =
-    tie.close
-    (tie.spec
-    (λ c κs. search needs) (λ c κs. search needs) (λ c. search needs) (λ c. search needs) (λ c. search needs) (λ c. search needs) returns)
+mandrozsi-share-fresh-spec = tie.close (tie.spec (λ c κs. search needs) (λ c κs. search needs) (λ c. search needs) (λ c. search needs)
+    (λ c. search needs) (λ c. search needs) returns)

@@ -11,8 +11,5 @@ returns c =
     (replied (λ (r : Ordered). r .drive) (c .of-ordered .ensures) (p .0) (p .1), p .2, p .3)
 
 pub mandrozsi-share-remove-spec : {M : Type 1} → statement M
-mandrozsi-share-remove-spec =
-    tie.close
-    (tie.spec
-    (λ c κs. search needs) (λ c κs. search needs) (λ c. search needs) (λ c. search needs) (λ c. search needs) (λ c. search needs) (λ c. search needs)
-    returns)
+mandrozsi-share-remove-spec = tie.close (tie.spec (λ c κs. search needs) (λ c κs. search needs) (λ c. search needs) (λ c. search needs)
+    (λ c. search needs) (λ c. search needs) (λ c. search needs) returns)

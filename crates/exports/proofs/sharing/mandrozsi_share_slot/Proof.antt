@@ -11,8 +11,5 @@ returns c =
     (replied (λ (r : Served). r .drive) (c .of-served .ensures) (p .0) (p .1), p .2, p .3)
 
 pub mandrozsi-share-slot-spec : {M : Type 1} → statement M
-mandrozsi-share-slot-spec =
-    tie.close
-    (tie.spec
-    (λ c κs. search needs) (λ c κs. search needs) (λ c. search needs) (λ c. search needs) (λ c. search needs) (λ c. search needs) (λ c. search needs)
-    returns)
+mandrozsi-share-slot-spec = tie.close (tie.spec (λ c κs. search needs) (λ c κs. search needs) (λ c. search needs) (λ c. search needs)
+    (λ c. search needs) (λ c. search needs) (λ c. search needs) returns)

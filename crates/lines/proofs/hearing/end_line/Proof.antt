@@ -6,7 +6,7 @@ use lib.Seq.{length-take-le}
 use borrow.Author.Needs.{needs}
 use Rattle.lines.specs.Grammar.{parsed}
 use Rattle.lines.specs.Sessions.{keptBytes}
-use Rattle.lines.proofs.Keeping.{take-least, ended-hears}
+use Rattle.lines.proofs.LineStarts.{take-least, ended-hears}
 use Rattle.lines.proofs.hearing.end_line.Statement.{statement}
 use Rattle.lines.proofs.hearing.end_line.Tie as tie
 
@@ -27,8 +27,5 @@ returns c = let s = c .before .before .before .before .before .before .before .b
     (c .before .before .before .before .before .before .before .answer .ensures)
 
 pub end-line-spec : {M : Type 1} → statement M
-end-line-spec =
-    tie.close
-    (tie.spec
-    (λ c κs. search needs) array-share-prefix-start slice-aggregate-parse (λ c κs. search needs) (λ c κs. search needs) (λ c. search needs)
-    (λ c. search needs) (λ c. search needs) returns)
+end-line-spec = tie.close (tie.spec (λ c κs. search needs) array-share-prefix-start slice-aggregate-parse (λ c κs. search needs)
+    (λ c κs. search needs) (λ c. search needs) (λ c. search needs) (λ c. search needs) returns)

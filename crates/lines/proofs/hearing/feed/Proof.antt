@@ -1,4 +1,5 @@
--- `lines::hearing::feed` meets its contract. The loop keeps: the talk over what is left of the input, from the words that stand in the lent bytes, is the talk asked for. Assumes nothing.
+-- `lines::hearing::feed` meets its contract. The loop keeps: the talk over what is left of the input, from the words that stand in the lent bytes, is
+-- the talk asked for. Assumes nothing.
 use mathlib.Core.Path.{_≡_, refl, _∙_}
 use Prim.Native.Nat.{_+_, _-_, _≤_}
 use native.Mathlib.Omega.{arith}
@@ -18,35 +19,11 @@ abbrev μ-loop : tie.MeasureT-loop
 loop-holds : tie.Need-loop-holds Inv-loop μ-loop
 loop-holds c = (omega arith, omega arith, refl, refl, refl, refl, refl)
 
-add-if1 : tie.Need-add-if1 Inv-loop μ-loop
-add-if1 c = omega arith
-
-same-length : tie.Need-same-length Inv-loop μ-loop
-same-length c = omega arith
-
-same-length-2 : tie.Need-same-length-2 Inv-loop μ-loop
-same-length-2 c = omega arith
-
-same-length-3 : tie.Need-same-length-3 Inv-loop μ-loop
-same-length-3 c = omega arith
-
 returns : tie.Need-returns Inv-loop μ-loop
 returns c = let a = c .before .before .before .before .before .before .before .args in
     let l = c .before .before .loop in
     let is = l .inv .6 ∙ talk-stops (a .input .now) (l .i) (omega arith) (l .s) (l .board) (l .list) (l .out) (l .to) (omega arith) (length (a .out .now)) (omega arith) in
     answered _ _ _ _ _ _ _ _ _ _ _ is (omega arith) (l .inv .5) (omega arith)
-
-shared-slice-read-hear : tie.Need-shared-slice-read-hear Inv-loop μ-loop
-shared-slice-read-hear c = omega arith
-
-hear-requires : tie.Need-hear-requires Inv-loop μ-loop
-hear-requires c κs = omega arith
-
-add-i : tie.Need-add-i Inv-loop μ-loop
-add-i c = omega arith
-
-loop-less : tie.Need-loop-less Inv-loop μ-loop
-loop-less c = omega arith
 
 loop-again : tie.Need-loop-again Inv-loop μ-loop
 loop-again c = let a = c .before .before .before .before .before .before .before .before .before .before .before .before .before .before .before .before .before .before .before .args in
@@ -65,15 +42,6 @@ loop-again c = let a = c .before .before .before .before .before .before .before
       l .inv .6 ∙ talk-goes (a .input .now) (l .i) (omega arith) (l .s) (l .board) (l .list) (l .out) (l .to) (omega arith) (h .result) B W O more (h .ensures) (length (a .out .now)) (omega arith),
     )
 
-same-length-4 : tie.Need-same-length-4 Inv-loop μ-loop
-same-length-4 c = omega arith
-
-same-length-5 : tie.Need-same-length-5 Inv-loop μ-loop
-same-length-5 c = omega arith
-
-same-length-6 : tie.Need-same-length-6 Inv-loop μ-loop
-same-length-6 c = omega arith
-
 returns-2 : tie.Need-returns-2 Inv-loop μ-loop
 returns-2 c = let a = c .before .before .before .before .before .before .args in
     let l = c .before .loop in
@@ -81,8 +49,6 @@ returns-2 c = let a = c .before .before .before .before .before .before .args in
     answered _ _ _ _ _ _ _ _ _ _ _ is (omega arith) (l .inv .5) (omega arith)
 
 pub feed-spec : {M : Type 1} → statement M
-feed-spec =
-    tie.close
-    (tie.spec
-    Inv-loop μ-loop loop-holds add-if1 same-length same-length-2 same-length-3 returns shared-slice-read-hear hear-requires add-i loop-less
-    loop-again same-length-4 same-length-5 same-length-6 returns-2)
+feed-spec = tie.close (tie.spec Inv-loop μ-loop loop-holds (λ c. omega arith) (λ c. omega arith) (λ c. omega arith) (λ c. omega arith) returns
+    (λ c. omega arith) (λ c κs. omega arith) (λ c. omega arith) (λ c. omega arith) loop-again (λ c. omega arith) (λ c. omega arith) (λ c. omega arith)
+    returns-2)

@@ -20,9 +20,6 @@ returns-3 : tie.Need-returns-3
 returns-3 c = c .with-one .ensures ∙ sym (command-two _ (c .before .before .before .before .before .before .before .before .args .rest .now) (omega (arith, c .before .before .before .before .before .find .ensures)) (sym (c .before .before .same .ensures) ∙ c .before .if2 .left))
 
 pub after-one-spec : {M : Type 1} → statement M
-after-one-spec =
-    tie.close
-    (tie.spec
-    (λ c κs. search needs) (λ c. search needs) slice-aggregate-after-two
-    (λ c. search needs) (λ c. search needs) (λ c. search needs) (λ c κs. search needs) returns
-    (λ c. search needs) (λ c κs. search needs) (λ c κs. search needs) returns-2 (λ c κs. search needs) returns-3)
+after-one-spec = tie.close (tie.spec (λ c κs. search needs) (λ c. search needs) slice-aggregate-after-two (λ c. search needs) (λ c. search needs)
+    (λ c. search needs) (λ c κs. search needs) returns (λ c. search needs) (λ c κs. search needs) (λ c κs. search needs) returns-2
+    (λ c κs. search needs) returns-3)

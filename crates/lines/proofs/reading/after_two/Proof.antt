@@ -3,7 +3,7 @@ use mathlib.Core.Path.{sym, _∙_}
 use native.Mathlib.Omega.{arith}
 use borrow.Author.Needs.{needs}
 use Rattle.lines.proofs.Commands.{command-three, command-many}
-use Rattle.lines.proofs.Cuts.{place-le}
+use Rattle.lines.proofs.Words.{place-le}
 use Rattle.lines.proofs.reading.after_two.Statement.{statement}
 use Rattle.lines.proofs.reading.after_two.Tie as tie
 

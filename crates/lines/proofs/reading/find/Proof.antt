@@ -5,13 +5,13 @@ use native.Mathlib.Numerals.{add-one}
 use native.Mathlib.Omega.{arith}
 use lib.ListN.{length, drop}
 use borrow.Author.Needs.{needs}
-use Rattle.lines.specs.Grammar.{placeOf}
-use Rattle.lines.proofs.Cuts.{place-here, place-past, place-end}
+use Rattle.lines.specs.Grammar.{firstPlace}
+use Rattle.lines.proofs.Words.{place-here, place-past, place-end}
 use Rattle.lines.proofs.reading.find.Statement.{statement}
 use Rattle.lines.proofs.reading.find.Tie as tie
 
 abbrev Inv-loop : tie.InvT-loop
-Inv-loop s b i₀ i = (i ≤ length s) × (placeOf b s ≡ i + placeOf b (drop i s))
+Inv-loop s b i₀ i = (i ≤ length s) × (firstPlace b s ≡ i + firstPlace b (drop i s))
 
 abbrev μ-loop : tie.MeasureT-loop
 μ-loop s b i₀ i = length s - i
@@ -26,7 +26,5 @@ returns-2 : tie.Need-returns-2 Inv-loop μ-loop
 returns-2 c = omega (arith, place-end (c .before .before .args .b) (c .before .before .args .s .now) (c .before .loop .i) (c .loop-test .left))
 
 pub find-spec : {M : Type 1} → statement M
-find-spec =
-    tie.close
-    (tie.spec
-    Inv-loop μ-loop (λ c. search needs) (λ c. search needs) returns (λ c. search needs) (λ c. search needs) loop-again returns-2)
+find-spec = tie.close (tie.spec Inv-loop μ-loop (λ c. search needs) (λ c. search needs) returns (λ c. search needs) (λ c. search needs) loop-again
+    returns-2)

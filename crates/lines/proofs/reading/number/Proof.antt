@@ -1,4 +1,5 @@
--- `lines::reading::number` meets its contract. The loop keeps: the word is the number that its digits so far and what is left of it give; the value stays within the limit. Assumes nothing.
+-- `lines::reading::number` meets its contract. The loop keeps: the word is the number that its digits so far and what is left of it give; the value
+-- stays within the limit. Assumes nothing.
 use mathlib.Core.Path.{_≡_, sym, _∙_}
 use Prim.Native.Nat.{_-_, _≤_}
 use native.Mathlib.Numerals.{add-one}
@@ -40,12 +41,6 @@ returns-5 c = let a = c .before .before .before .before .before .before .before 
 returns-6 : tie.Need-returns-6 Inv-loop μ-loop
 returns-6 c = let a = c .before .before .before .before .before .before .before .before .before .args in let l = c .before .before .before .before .before .before .loop in sym (l .inv .2 ∙ read-more (a .limit) (l .value) (a .word .now) (l .i) (omega arith) (c .before .before .before .if3 .left) (c .before .before .if4 .left) ∙ read-over _ _ _ (omega arith))
 
-mul-value : tie.Need-mul-value Inv-loop μ-loop
-mul-value c = omega arith
-
-add-value : tie.Need-add-value Inv-loop μ-loop
-add-value c = omega arith
-
 loop-again : tie.Need-loop-again Inv-loop μ-loop
 loop-again c = let a = c .before .before .before .before .before .before .before .before .before .args in let l = c .before .before .before .before .before .before .loop in (omega arith, omega arith, rw add-one (l .inv .2 ∙ read-more (a .limit) (l .value) (a .word .now) (l .i) (omega arith) (c .before .before .before .if3 .left) (c .before .before .if4 .left)))
 
@@ -53,8 +48,5 @@ returns-7 : tie.Need-returns-7 Inv-loop μ-loop
 returns-7 c = let a = c .before .before .before .before .args in let l = c .before .loop in sym (l .inv .2 ∙ read-end (a .limit) (l .value) (a .word .now) (l .i) (omega arith) (omega arith))
 
 pub number-spec : {M : Type 1} → statement M
-number-spec =
-    tie.close
-    (tie.spec
-    Inv-loop μ-loop returns returns-2 loop-holds (λ c. search needs) cast-b returns-3 returns-4 returns-5 returns-6 mul-value add-value
-    (λ c. search needs) (λ c. search needs) loop-again returns-7)
+number-spec = tie.close (tie.spec Inv-loop μ-loop returns returns-2 loop-holds (λ c. search needs) cast-b returns-3 returns-4 returns-5 returns-6
+    (λ c. omega arith) (λ c. omega arith) (λ c. search needs) (λ c. search needs) loop-again returns-7)

@@ -17,8 +17,5 @@ returns-2 : tie.Need-returns-2
 returns-2 c = c .alone .ensures ∙ sym (parsed-one (c .before .before .before .before .args .line .now) (omega (arith, c .before .before .find .ensures)))
 
 pub parse-spec : {M : Type 1} → statement M
-parse-spec =
-    tie.close
-    (tie.spec
-    (λ c κs. search needs) (λ c. search needs) slice-aggregate-after-one
-    (λ c. search needs) (λ c. search needs) (λ c. search needs) (λ c κs. search needs) returns (λ c κs. search needs) returns-2)
+parse-spec = tie.close (tie.spec (λ c κs. search needs) (λ c. search needs) slice-aggregate-after-one (λ c. search needs) (λ c. search needs)
+    (λ c. search needs) (λ c κs. search needs) returns (λ c κs. search needs) returns-2)

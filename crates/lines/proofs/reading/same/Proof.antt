@@ -5,8 +5,9 @@ use native.Mathlib.Numerals.{add-one}
 use native.Mathlib.Omega.{arith}
 use lib.ListN.{length, drop}
 use borrow.Author.Needs.{needs}
-use Rattle.lines.specs.Grammar.{same}
-use Rattle.lines.proofs.Cuts.{same-short, same-next, same-differ, same-end}
+use Rattle.general.specs.Tests.{same}
+use Rattle.general.proofs.Laws.{same-short}
+use Rattle.lines.proofs.Words.{same-next, same-differ, same-end}
 use Rattle.lines.proofs.reading.same.Statement.{statement}
 use Rattle.lines.proofs.reading.same.Tie as tie
 
@@ -32,8 +33,5 @@ returns-3 : tie.Need-returns-3 Inv-loop μ-loop
 returns-3 c = let a = c .before .before .before .args in let l = c .before .loop in sym (l .inv .1 ∙ same-end (a .s .now) (a .t .now) (l .i) (omega arith) (omega arith))
 
 pub same-spec : {M : Type 1} → statement M
-same-spec =
-    tie.close
-    (tie.spec
-    Inv-loop μ-loop returns loop-holds (λ c. search needs) (λ c. search needs) returns-2 (λ c. search needs) (λ c. search needs) loop-again
-    returns-3)
+same-spec = tie.close (tie.spec Inv-loop μ-loop returns loop-holds (λ c. search needs) (λ c. search needs) returns-2 (λ c. search needs)
+    (λ c. search needs) loop-again returns-3)

@@ -27,8 +27,5 @@ unfolding withOne
 returns-4 c = simp (sym (c .before .before .before .before .before .before .before .before .before .number .ensures) ∙ c .before .before .before .before .before .before .before .x .given .1, sym (c .before .before .before .before .same .ensures) ∙ c .before .before .before .if1 .left, sym (c .before .same2 .ensures) ∙ c .if2 .left)
 
 pub with-one-spec : {M : Type 1} → statement M
-with-one-spec =
-    tie.close
-    (tie.spec
-    (λ c κs. search needs) (λ c. search needs) (λ c. search needs) cast-n (λ c. search needs) (λ c κs. search needs) returns
-    (λ c. search needs) (λ c κs. search needs) returns-2 returns-3 returns-4)
+with-one-spec = tie.close (tie.spec (λ c κs. search needs) (λ c. search needs) (λ c. search needs) cast-n (λ c. search needs) (λ c κs. search needs)
+    returns (λ c. search needs) (λ c κs. search needs) returns-2 returns-3 returns-4)

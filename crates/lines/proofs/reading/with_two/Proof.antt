@@ -30,8 +30,5 @@ unfolding withTwo
 returns-4 c = simp (sym (c .before .before .before .before .before .before .before .before .before .before .number .ensures) ∙ c .before .before .before .before .before .before .before .before .x .given .1, sym (c .before .before .before .before .before .before .number2 .ensures) ∙ c .before .before .before .before .y .given .1, sym (c .before .same .ensures) ∙ c .if1 .left)
 
 pub with-two-spec : {M : Type 1} → statement M
-with-two-spec =
-    tie.close
-    (tie.spec
-    (λ c κs. search needs) (λ c. search needs) (λ c. search needs) (λ c κs. search needs) (λ c. search needs) (λ c. search needs)
-    (λ c. search needs) (λ c κs. search needs) cast-t14 cast-t15 returns returns-2 returns-3 returns-4)
+with-two-spec = tie.close (tie.spec (λ c κs. search needs) (λ c. search needs) (λ c. search needs) (λ c κs. search needs) (λ c. search needs)
+    (λ c. search needs) (λ c. search needs) (λ c κs. search needs) cast-t14 cast-t15 returns returns-2 returns-3 returns-4)

@@ -1,6 +1,6 @@
 -- `lines::talking::no_names` meets its contract. Assumes nothing.
 use mathlib.Core.Path.{refl}
-use Rattle.lines.specs.Printing.{blank}
+use Rattle.general.specs.Lists.{blank}
 use Rattle.lines.proofs.talking.no_names.Statement.{statement}
 use Rattle.lines.proofs.talking.no_names.Tie as tie
 

@@ -2,7 +2,7 @@
 use mathlib.Core.Path.{refl}
 use borrow.Author.Needs.{needs}
 use borrow.Author.Tests.{lt-leb, le-leb}
-use Rattle.lines.proofs.Telling.{told-start}
+use Rattle.lines.proofs.Written.{told-start}
 use Rattle.lines.proofs.talking.step.Statement.{statement}
 use Rattle.lines.proofs.talking.step.Tie as tie
 
@@ -14,5 +14,5 @@ returns-2 c = let told = rw (c .before .before .before .before .before .before .
     rw (le-leb _ _ (c .before .before .before .before .before .before .before .before .before .before .before .if1 .left)) (told-start _ _ _ _ _ (told .0), told .1, told .2, told .0 .bytes)
 
 pub step-spec : {M : Type 1} → statement M
-step-spec =
-    tie.close (tie.spec returns (λ c κs. search needs) (λ c κs. search needs) (λ c. search needs) (λ c. search needs) (λ c. search needs) returns-2)
+step-spec = tie.close (tie.spec returns (λ c κs. search needs) (λ c κs. search needs) (λ c. search needs) (λ c. search needs) (λ c. search needs)
+    returns-2)

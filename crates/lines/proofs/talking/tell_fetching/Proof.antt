@@ -1,7 +1,7 @@
 -- `lines::talking::tell_fetching` meets its contract. Assumes nothing.
 use native.Mathlib.Omega.{arith}
 use borrow.Author.Needs.{needs}
-use Rattle.lines.proofs.Telling.{told}
+use Rattle.lines.proofs.Written.{told}
 use Rattle.lines.proofs.talking.tell_fetching.Statement.{statement}
 use Rattle.lines.proofs.talking.tell_fetching.Tie as tie
 
@@ -15,8 +15,5 @@ returns-3 : tie.Need-returns-3
 returns-3 c = rw (c .before .before .before .before .enum-told .given .1) (told _ _ _ _ _ _ _ _ (c .before .before .put-alone .ensures) (omega arith))
 
 pub tell-fetching-spec : {M : Type 1} → statement M
-tell-fetching-spec =
-    tie.close
-    (tie.spec
-    (λ c. search needs) (λ c κs. search needs) (λ c. search needs) (λ c κs. search needs) (λ c. search needs) (λ c κs. search needs)
-    (λ c. search needs) returns (λ c. search needs) returns-2 (λ c. search needs) returns-3)
+tell-fetching-spec = tie.close (tie.spec (λ c. search needs) (λ c κs. search needs) (λ c. search needs) (λ c κs. search needs) (λ c. search needs)
+    (λ c κs. search needs) (λ c. search needs) returns (λ c. search needs) returns-2 (λ c. search needs) returns-3)

@@ -1,7 +1,7 @@
 -- `lines::talking::tell_ordering` meets its contract. Assumes nothing.
 use native.Mathlib.Omega.{arith}
 use borrow.Author.Needs.{needs}
-use Rattle.lines.proofs.Telling.{told}
+use Rattle.lines.proofs.Written.{told}
 use Rattle.lines.proofs.talking.tell_ordering.Statement.{statement}
 use Rattle.lines.proofs.talking.tell_ordering.Tie as tie
 
@@ -21,10 +21,7 @@ returns-5 : tie.Need-returns-5
 returns-5 c = rw (c .before .before .before .before .before .answer4 .given .1) (c .before .before .tell-refusal .ensures)
 
 pub tell-ordering-spec : {M : Type 1} → statement M
-tell-ordering-spec =
-    tie.close
-    (tie.spec
-    (λ c. search needs) (λ c. search needs) (λ c κs. search needs) (λ c. search needs) (λ c. search needs) (λ c κs. search needs)
-    (λ c. search needs) (λ c κs. search needs) (λ c. search needs) (λ c κs. search needs) (λ c. search needs) (λ c κs. search needs)
-    (λ c. search needs) returns (λ c. search needs) returns-2 (λ c. search needs) returns-3 (λ c. search needs) returns-4
+tell-ordering-spec = tie.close (tie.spec (λ c. search needs) (λ c. search needs) (λ c κs. search needs) (λ c. search needs) (λ c. search needs)
+    (λ c κs. search needs) (λ c. search needs) (λ c κs. search needs) (λ c. search needs) (λ c κs. search needs) (λ c. search needs)
+    (λ c κs. search needs) (λ c. search needs) returns (λ c. search needs) returns-2 (λ c. search needs) returns-3 (λ c. search needs) returns-4
     (λ c. search needs) returns-5)

@@ -5,8 +5,8 @@ use native.Mathlib.Omega.{arith}
 use lib.Seq.{length-take-le}
 use borrow.Author.Needs.{needs}
 use Rattle.lines.specs.Replies.{roundLine}
-use Rattle.lines.proofs.Names.{Named, answer-is, named}
-use Rattle.lines.proofs.Telling.{told}
+use Rattle.lines.proofs.RoundNames.{Named, answer-is, named}
+use Rattle.lines.proofs.Written.{told}
 use Rattle.lines.proofs.talking.tell_round.Statement.{statement}
 use Rattle.lines.proofs.talking.tell_round.Tie as tie
 
@@ -45,9 +45,6 @@ returns-2 c = let a = c .before .before .before .before .before .before .before 
     rw (sym (answer-is (a .drive) (a .board .now) (o .result) [] (r .result) (o .ensures) (r .ensures .0)) ∙ c .before .before .before .before .before .answer .given .1) (c .before .before .tell-refusal .ensures)
 
 pub tell-round-spec : {M : Type 1} → statement M
-tell-round-spec =
-    tie.close
-    (tie.spec
-    (λ c κs. search needs) (λ c. search needs) (λ c κs. search needs) (λ c. search needs) (λ c. search needs) array-share-prefix-names
-    slice-aggregate-put-line put-line-requires (λ c. search needs) (λ c κs. search needs) (λ c. search needs) returns (λ c. search needs)
-    returns-2)
+tell-round-spec = tie.close (tie.spec (λ c κs. search needs) (λ c. search needs) (λ c κs. search needs) (λ c. search needs) (λ c. search needs)
+    array-share-prefix-names slice-aggregate-put-line put-line-requires (λ c. search needs) (λ c κs. search needs) (λ c. search needs) returns
+    (λ c. search needs) returns-2)

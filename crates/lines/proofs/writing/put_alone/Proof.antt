@@ -26,5 +26,4 @@ returns c = let a = c .before .before .before .before .before .args in
     (omega (arith, n .0, line-length (a .number) []), rw (n .1, n .0) (line-alone (a .out .now) (a .at) (a .number)), omega (arith, n .0, decimal-length 19 (a .number) (omega arith)))
 
 pub put-alone-spec : {M : Type 1} → statement M
-put-alone-spec =
-    tie.close (tie.spec put-number-requires slice-write-out add-result same-length returns)
+put-alone-spec = tie.close (tie.spec put-number-requires slice-write-out add-result same-length returns)

@@ -24,5 +24,4 @@ unfolding field
 returns c = let p = c .before .before .put-number .ensures in (omega (arith, p .0), p .1 ∙ rw add-one refl)
 
 pub put-field-spec : {M : Type 1} → statement M
-put-field-spec =
-    tie.close (tie.spec slice-write-out (λ c. search needs) put-number-requires same-length returns)
+put-field-spec = tie.close (tie.spec slice-write-out (λ c. search needs) put-number-requires same-length returns)

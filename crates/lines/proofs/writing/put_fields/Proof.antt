@@ -7,8 +7,9 @@ use native.Mathlib.Omega.{arith}
 use lib.ListN.{length, take, getD, length-append}
 use lib.Seq.{sets, take-all}
 use borrow.Author.Needs.{needs}
+use Rattle.general.proofs.Laws.{sets-append}
 use Rattle.lines.specs.Printing.{field, fields}
-use Rattle.lines.proofs.Decimals.{field-length, fields-more, sets-append}
+use Rattle.lines.proofs.Decimals.{field-length, fields-more}
 use Rattle.lines.proofs.writing.put_fields.Statement.{statement}
 use Rattle.lines.proofs.writing.put_fields.Tie as tie
 
@@ -53,8 +54,5 @@ returns c = let a = c .before .before .before .before .args in
     (rw all at (l .inv .3), rw all at (l .inv .4), omega arith)
 
 pub put-fields-spec : {M : Type 1} → statement M
-put-fields-spec =
-    tie.close
-    (tie.spec
-    Inv-loop μ-loop loop-holds (λ c. search needs) (λ c. search needs) cast-put-field put-field-requires
+put-fields-spec = tie.close (tie.spec Inv-loop μ-loop loop-holds (λ c. search needs) (λ c. search needs) cast-put-field put-field-requires
     (λ c. search needs) (λ c. search needs) loop-again (λ c. search needs) returns)

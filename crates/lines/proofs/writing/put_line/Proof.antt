@@ -30,7 +30,4 @@ returns c = let a = c .before .before .before .before .before .before .before .b
     )
 
 pub put-line-spec : {M : Type 1} → statement M
-put-line-spec =
-    tie.close
-    (tie.spec
-    put-number-requires put-fields-requires slice-write-out add-result same-length returns)
+put-line-spec = tie.close (tie.spec put-number-requires put-fields-requires slice-write-out add-result same-length returns)

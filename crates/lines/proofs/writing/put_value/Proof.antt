@@ -36,7 +36,4 @@ returns c = let a = c .before .before .before .before .before .before .before .b
     )
 
 pub put-value-spec : {M : Type 1} → statement M
-put-value-spec =
-    tie.close
-    (tie.spec
-    put-number-requires put-field-requires slice-write-out add-result same-length returns)
+put-value-spec = tie.close (tie.spec put-number-requires put-field-requires slice-write-out add-result same-length returns)

@@ -2,49 +2,39 @@
 use Prim.Native.Nat.{_+_, _^_, _<_}
 use native.Mathlib.Omega.{arith}
 use borrow.Author.Needs.{needs}
-use Rattle.names.specs.Table.{numberOf}
+use Rattle.names.specs.Table.{numberUnder}
 use Rattle.names.proofs.Laws.{number-small}
-use Rattle.pieces.proofs.Masks.{add-fits, named-run, noted-parts, noted-again, noted-new}
+use Rattle.pieces.proofs.DamageTest.{add-fits, noted-again, noted-new}
 use Rattle.pieces.proofs.damage.note.Statement.{statement}
 use Rattle.pieces.proofs.damage.note.Tie as tie
 
 returns : tie.Need-returns
-returns c = noted-parts _ _ _ (c .before .before .pre .2) (c .if1 .taken)
-
-find-requires : tie.Need-find-requires
-find-requires c κs = (omega arith, c .before .before .before .pre .2)
-
-returns-2 : tie.Need-returns-2
-returns-2 c =
-    let a = c .before .before .before .before .before .before in
-    noted-again (a .args .x) (a .args .h) (a .args .sizes .now) (a .pre .2) (omega arith) (rw (c .before .before .find .ensures .number) at (c .if2 .taken))
+returns c =
+    let a = c .before .before .before .before .before in
+    noted-again (a .args .x) (a .args .h) (a .args .sizes .now) (a .pre .1) (rw (c .before .before .find .ensures .number) at (c .if1 .taken))
 
 -- the mask with the new size has twelve digits
-fits : (c : tie.After-struct-known2) → let a = c .before .before .before .before .before .before .before .before .before .args in
-    numberOf (a .sizes .now) (a .x) + 2 ^ a .h < 4096
+fits : (c : tie.After-struct-known2) → let a = c .before .before .before .before .before .before .before .before .args in numberUnder (a .sizes .now) (a .x) + 2 ^ a .h < 4096
 fits c =
-    let a = c .before .before .before .before .before .before .before .before .before in
-    let left = rw (c .before .before .before .before .before .find .ensures .number) at (c .before .before .before .if2 .left) in
-    add-fits (numberOf (a .args .sizes .now) (a .args .x)) (a .args .h) (number-small (a .args .sizes .now) (a .pre .2) (a .args .x)) (a .pre .1) (omega arith)
+    let a = c .before .before .before .before .before .before .before .before in
+    let left = rw (c .before .before .before .before .before .find .ensures .number) at (c .before .before .before .if1 .left) in
+    add-fits (numberUnder (a .args .sizes .now) (a .args .x)) (a .args .h) (number-small (a .args .sizes .now) (a .pre .1) (a .args .x)) (a .pre .0) (omega arith)
 
 add-enter : tie.Need-add-enter
 add-enter c = omega (arith, c .before .before .before .before .before .find .ensures .number, c .before .size-of .ensures, fits c)
 
 enter-requires : tie.Need-enter-requires
 enter-requires c κs =
-    let a = c .before .before .before .before .before .before .before .before .before in
+    let a = c .before .before .before .before .before .before .before .before in
     let f = c .before .before .before .before .before .find .ensures in
-    (omega arith, omega (arith, f .number, c .before .size-of .ensures, fits c), a .pre .2, f .place, λ _. omega (arith, a .pre .3, named-run (a .args .x) (omega arith)))
+    (omega arith, omega (arith, f .number, c .before .size-of .ensures, fits c), a .pre .1, f .row, λ _. a .pre .2)
 
-returns-3 : tie.Need-returns-3
-returns-3 c =
-    let a = c .before .before .before .before .before .before .before .before .before .before .before .before in
+returns-2 : tie.Need-returns-2
+returns-2 c =
+    let a = c .before .before .before .before .before .before .before .before .before .before .before in
     let f = c .before .before .before .before .before .before .before .before .find .ensures .number in
-    noted-new (a .args .x) (a .args .h) (a .args .sizes .now) _ (omega arith) (rw f at (c .before .before .before .before .before .before .if2 .left)) (rw (f, c .before .before .before .before .size-of .ensures) at (c .before .before .enter .ensures))
+    noted-new (a .args .x) (a .args .h) (a .args .sizes .now) _ (rw f at (c .before .before .before .before .before .before .if1 .left)) (rw (f, c .before .before .before .before .size-of .ensures) at (c .before .before .enter .ensures))
 
 pub note-spec : {M : Type 1} → statement M
-note-spec =
-    tie.close
-    (tie.spec
-    returns find-requires (λ c. search needs) (λ c. search needs) returns-2 (λ c κs. search needs) add-enter enter-requires
-    (λ c. search needs) returns-3)
+note-spec = tie.close (tie.spec (λ c κs. search needs) (λ c. search needs) (λ c. search needs) returns (λ c κs. search needs) add-enter enter-requires
+    (λ c. search needs) returns-2)

@@ -3,14 +3,14 @@ use mathlib.Core.Path.{_≡_, subst}
 use Prim.Native.Nat.{ℕ, _-_, _≤_}
 use native.Mathlib.Omega.{arith}
 use borrow.Author.Needs.{needs}
-use Rattle.names.specs.Table.{numberOf}
+use Rattle.names.specs.Table.{numberUnder}
 use Rattle.pieces.specs.Laying.{Heaviest}
 use Rattle.pieces.proofs.LayingOut.{heaviest-none, heaviest-more}
 use Rattle.pieces.proofs.laying.heaviest.Statement.{statement}
 use Rattle.pieces.proofs.laying.heaviest.Tie as tie
 
 abbrev Inv-loop : tie.InvT-loop
-Inv-loop sizes names n below r₀ i₀ r i = (i ≤ n) × Heaviest (numberOf sizes) names i below r
+Inv-loop sizes names n below r₀ i₀ r i = (i ≤ n) × Heaviest (numberUnder sizes) names i below r
 
 abbrev μ-loop : tie.MeasureT-loop
 μ-loop sizes names n below r₀ i₀ r i = n - i
@@ -33,25 +33,19 @@ number-of-requires c κs = (omega (arith, c .shared-slice-known3 .given (c .befo
 add-i : tie.Need-add-i Inv-loop μ-loop
 add-i c = omega (arith, c .before .before .before .before .before .before .before .pre .2)
 
-loop-less : tie.Need-loop-less Inv-loop μ-loop
-loop-less c = omega arith
-
 loop-again : tie.Need-loop-again Inv-loop μ-loop
 loop-again c =
     let a = c .before .before .before .before .before .before .before .args in
     let L = c .before .before .before .before .loop in
-    (omega arith, rw (c .heavier .ensures, c .before .number-of .ensures) (heaviest-more (numberOf (a .sizes .now)) (a .names .now) (L .i) (a .below) (L .r) (L .inv .1)))
+    (omega arith, rw (c .heavier .ensures, c .before .number-of .ensures) (heaviest-more (numberUnder (a .sizes .now)) (a .names .now) (L .i) (a .below) (L .r) (L .inv .1)))
 
 returns : tie.Need-returns Inv-loop μ-loop
 returns c =
     let a = c .before .before .before .before .args in
     let L = c .before .loop in
     let e : L .i ≡ a .n = omega arith in
-    subst (λ (n : ℕ). Heaviest (numberOf (a .sizes .now)) (a .names .now) n (a .below) (L .r)) e (L .inv .1)
+    subst (λ (n : ℕ). Heaviest (numberUnder (a .sizes .now)) (a .names .now) n (a .below) (L .r)) e (L .inv .1)
 
 pub heaviest-spec : {M : Type 1} → statement M
-heaviest-spec =
-    tie.close
-    (tie.spec
-    Inv-loop μ-loop loop-holds mul-number-of shared-slice-read-number-of cast-number-of number-of-requires (λ c κs. search needs) add-i
-    loop-less loop-again returns)
+heaviest-spec = tie.close (tie.spec Inv-loop μ-loop loop-holds mul-number-of shared-slice-read-number-of cast-number-of number-of-requires
+    (λ c κs. search needs) add-i (λ c. omega arith) loop-again returns)

@@ -16,6 +16,5 @@ returns-2 : tie.Need-returns-2
 returns-2 c = let t = le-ltb 0 (c .before .args .weight) (omega arith) in (simp t, simp t)
 
 pub list-name-spec : {M : Type 1} → statement M
-list-name-spec =
-    tie.close
-    (tie.spec (λ c. search needs) (λ c. search needs) slice-write-names (λ c. search needs) (λ c. search needs) returns returns-2)
+list-name-spec = tie.close (tie.spec (λ c. search needs) (λ c. search needs) slice-write-names (λ c. search needs) (λ c. search needs) returns
+    returns-2)

@@ -28,12 +28,6 @@ list-name-requires c κs =
     let e = c .number-of .ensures in
     (t, omega (arith, s .long, L .inv .0, p .1), λ h. omega (arith, listing-place _ _ _ _ s t (p .2) (rw e at h), L .inv .0, p .1))
 
-add-x : tie.Need-add-x Inv-loop μ-loop
-add-x c = omega arith
-
-loop-less : tie.Need-loop-less Inv-loop μ-loop
-loop-less c = omega arith
-
 loop-again : tie.Need-loop-again Inv-loop μ-loop
 loop-again c =
     let p = c .before .before .before .before .before .before .before .before .before .pre in
@@ -54,7 +48,5 @@ returns c =
     (omega (arith, L .inv .1 .long, L .inv .0, p .1), listing-all _ _ _ _ (L .inv .1) (omega arith))
 
 pub list-names-spec : {M : Type 1} → statement M
-list-names-spec =
-    tie.close
-    (tie.spec
-    Inv-loop μ-loop loop-holds number-of-requires list-name-requires add-x loop-less loop-again same-length returns)
+list-names-spec = tie.close (tie.spec Inv-loop μ-loop loop-holds number-of-requires list-name-requires (λ c. omega arith) (λ c. omega arith)
+    loop-again same-length returns)

@@ -1,6 +1,6 @@
 -- `pieces::laying::no_names` meets its contract. Assumes nothing.
 use mathlib.Core.Path.{refl}
-use Rattle.pieces.specs.Halving.{blank}
+use Rattle.general.specs.Lists.{blank}
 use Rattle.pieces.proofs.laying.no_names.Statement.{statement}
 use Rattle.pieces.proofs.laying.no_names.Tie as tie
 

@@ -4,16 +4,16 @@ use Prim.Native.Nat.{_-_, _≤_, _<_}
 use native.Mathlib.Omega.{arith}
 use lib.ListN.{length, getD, take}
 use lib.Seq.{length-take-le, getD-take}
-use Rattle.pieces.specs.Fresh.{laid, Placeables}
-use Rattle.names.specs.Table.{numberOf}
+use Rattle.pieces.specs.Fresh.{allPlaced, Placeables}
+use Rattle.names.specs.Table.{numberUnder}
 use Rattle.pieces.proofs.LayingOut.{left, left-none, turn-placeable, turn-rest, turn-laid}
 use Rattle.pieces.proofs.laying.place_rank.Statement.{statement}
 use Rattle.pieces.proofs.laying.place_rank.Tie as tie
 
 abbrev Inv-loop : tie.InvT-loop
 Inv-loop board₀ c sizes names n w i₀ board i =
-    (i ≤ n) × (length board ≡ length board₀) × Placeables c board (left c (numberOf sizes) w (take n names) i)
-    × (laid c board (left c (numberOf sizes) w (take n names) i) ≡ laid c board₀ (left c (numberOf sizes) w (take n names) 0))
+    (i ≤ n) × (length board ≡ length board₀) × Placeables c board (left c (numberUnder sizes) w (take n names) i)
+    × (allPlaced c board (left c (numberUnder sizes) w (take n names) i) ≡ allPlaced c board₀ (left c (numberUnder sizes) w (take n names) 0))
 
 abbrev μ-loop : tie.MeasureT-loop
 μ-loop board₀ c sizes names n w i₀ board i = n - i
@@ -48,20 +48,17 @@ place-turn-requires c κs =
     let a = c .before .before .before .before .before .before .before .before .args in
     let L = c .before .before .before .before .loop in
     let h = here c in
-    let f = turn-placeable (a .c) (numberOf (a .sizes .now)) (a .w) (take (a .n) (a .names .now)) (L .board) (L .i) (h .0) (L .inv .2) in
+    let f = turn-placeable (a .c) (numberUnder (a .sizes .now)) (a .w) (take (a .n) (a .names .now)) (L .board) (L .i) (h .0) (L .inv .2) in
     λ e. (rw (h .1) at f) (sym (c .number-of .ensures) ∙ e)
 
 add-i : tie.Need-add-i Inv-loop μ-loop
 add-i c = omega (arith, c .before .before .before .before .before .before .before .before .before .before .before .pre .2)
 
-loop-less : tie.Need-loop-less Inv-loop μ-loop
-loop-less c = omega arith
-
 loop-again : tie.Need-loop-again Inv-loop μ-loop
 loop-again c =
     let a = c .before .before .before .before .before .before .before .before .before .before .before .args in
     let L = c .before .before .before .before .before .before .before .loop in
-    let W = numberOf (a .sizes .now) in
+    let W = numberUnder (a .sizes .now) in
     let K = take (a .n) (a .names .now) in
     let h = here (c .before .before .before) in
     let f = c .before .before .place-turn in
@@ -80,12 +77,9 @@ returns : tie.Need-returns Inv-loop μ-loop
 returns c =
     let a = c .before .before .before .before .before in
     let L = c .before .loop in
-    left-none (a .args .c) (numberOf (a .args .sizes .now)) (a .args .w) (take (a .args .n) (a .args .names .now)) (L .board) (L .i)
+    left-none (a .args .c) (numberUnder (a .args .sizes .now)) (a .args .w) (take (a .args .n) (a .args .names .now)) (L .board) (L .i)
     (omega (arith, length-take-le (a .args .n) (a .args .names .now) (a .pre .1))) ∙ L .inv .3
 
 pub place-rank-spec : {M : Type 1} → statement M
-place-rank-spec =
-    tie.close
-    (tie.spec
-    Inv-loop μ-loop loop-holds mul-x shared-slice-read-x cast-number-of number-of-requires place-turn-requires add-i loop-less loop-again
-    same-length returns)
+place-rank-spec = tie.close (tie.spec Inv-loop μ-loop loop-holds mul-x shared-slice-read-x cast-number-of number-of-requires place-turn-requires add-i
+    (λ c. omega arith) loop-again same-length returns)

@@ -2,13 +2,9 @@
 use native.Mathlib.Omega.{arith}
 use lib.Pow.{pow-pos, pow-mono}
 use borrow.Author.Needs.{needs}
-use Rattle.pieces.proofs.Walks.{lower-odd, lower-beyond, lower-counted}
+use Rattle.pieces.proofs.PiecesByStart.{lower-odd, lower-beyond, lower-counted}
 use Rattle.pieces.proofs.listing.is_lower.Statement.{statement}
 use Rattle.pieces.proofs.listing.is_lower.Tie as tie
-use Rattle.pieces.proofs.listing.is_lower.Reads as reads
-use Rattle.pieces.proofs.listing.is_lower.Lts as lts
-use Rattle.pieces.proofs.count.Reads as count-reads
-use Rattle.pieces.proofs.size_of.Reads as size-of-reads
 
 add-if1 : tie.Need-add-if1
 add-if1 c = omega (arith, c .size-of .ensures, pow-mono {i = c .before .before .args .l} {j = 12} (omega arith))
@@ -32,8 +28,5 @@ returns-3 : tie.Need-returns-3
 returns-3 c = lower-counted _ _ _ _ _ (c .before .before .before .before .size-of .ensures) _ _ (c .before .before .before .if1 .left) (omega arith) (c .count .ensures)
 
 pub is-lower-spec : {M : Type 1} → statement M
-is-lower-spec =
-    tie.close
-    (tie.spec
-    (λ c κs. search needs) add-if1 rem-if1 returns add-if2 add-if2-2 returns-2
-    (λ c. search needs) (λ c. search needs) (λ c. search needs) (λ c κs. search needs) returns-3)
+is-lower-spec = tie.close (tie.spec (λ c κs. search needs) add-if1 rem-if1 returns add-if2 add-if2-2 returns-2 (λ c. search needs) (λ c. search needs)
+    (λ c. search needs) (λ c κs. search needs) returns-3)

@@ -7,14 +7,9 @@ use lib.Pow.{pow-pos}
 use lib.Seq.{sets}
 use Rattle.pieces.specs.Listing.{namedPieces}
 use Rattle.pieces.proofs.Blocks.{whole-end}
-use Rattle.pieces.proofs.Walks.{Left, left-all, left-more, left-done}
+use Rattle.pieces.proofs.PiecesByStart.{Left, left-all, left-more, left-done}
 use Rattle.pieces.proofs.listing.list_pieces.Statement.{statement}
 use Rattle.pieces.proofs.listing.list_pieces.Tie as tie
-use Rattle.pieces.proofs.listing.list_pieces.Reads as reads
-use Rattle.pieces.proofs.listing.list_pieces.Lts as lts
-use Rattle.pieces.proofs.listing.exponent_at.Reads as exponent-at-reads
-use Rattle.pieces.proofs.listing.list_run.Reads as list-run-reads
-use Rattle.pieces.proofs.size_of.Reads as size-of-reads
 
 abbrev Inv-loop : tie.InvT-loop
 Inv-loop board c list₀ a₀ n₀ list a n =
@@ -26,21 +21,6 @@ abbrev μ-loop : tie.MeasureT-loop
 loop-holds : tie.Need-loop-holds Inv-loop μ-loop
 loop-holds c = (omega arith, omega arith, refl, left-all _ _ _ (c .before .before .pre .1))
 
-exponent-at-requires : tie.Need-exponent-at-requires Inv-loop μ-loop
-exponent-at-requires c κs = omega arith
-
-mul-list-run : tie.Need-mul-list-run Inv-loop μ-loop
-mul-list-run c = omega arith
-
-shared-slice-read-list-run : tie.Need-shared-slice-read-list-run Inv-loop μ-loop
-shared-slice-read-list-run c = omega arith
-
-list-run-requires : tie.Need-list-run-requires Inv-loop μ-loop
-list-run-requires c κs = omega arith
-
-size-of-requires : tie.Need-size-of-requires Inv-loop μ-loop
-size-of-requires c κs = omega arith
-
 add-a : tie.Need-add-a Inv-loop μ-loop
 add-a c = let ends = whole-end _ _ _ _ _ (c .before .before .before .before .before .before .exponent-at .ensures .0 .run) in omega arith
 
@@ -50,15 +30,9 @@ loop-less c = omega (arith, pow-pos (c .before .before .before .before .before .
 loop-again : tie.Need-loop-again Inv-loop μ-loop
 loop-again c = let ends = whole-end _ _ _ _ _ (c .before .before .before .before .before .before .exponent-at .ensures .0 .run) in (omega arith, omega (arith, c .before .before .before .list-run .ensures .1, pow-pos (c .before .before .before .before .before .before .exponent-at .result)), omega (arith, c .before .before .before .list-run .kept .1 .1 .1 .0), left-more _ _ _ _ _ _ _ _ _ _ _ (c .before .before .before .before .before .before .before .before .loop .inv .3) (c .before .before .before .before .before .before .before .loop-test .taken) (c .before .before .before .before .before .before .exponent-at .ensures .0) (c .size-of .ensures) (c .before .before .before .list-run .ensures .0) (c .before .before .before .list-run .ensures .2))
 
-same-length : tie.Need-same-length Inv-loop μ-loop
-same-length c = omega arith
-
 returns : tie.Need-returns Inv-loop μ-loop
 returns c = let done = left-done _ _ _ _ _ _ _ (c .loop-test .left) (c .before .loop .inv .3) in (done .0, omega arith, done .1)
 
 pub list-pieces-spec : {M : Type 1} → statement M
-list-pieces-spec =
-    tie.close
-    (tie.spec
-    Inv-loop μ-loop loop-holds exponent-at-requires mul-list-run shared-slice-read-list-run list-run-requires size-of-requires add-a
-    loop-less loop-again same-length returns)
+list-pieces-spec = tie.close (tie.spec Inv-loop μ-loop loop-holds (λ c κs. omega arith) (λ c. omega arith) (λ c. omega arith) (λ c κs. omega arith)
+    (λ c κs. omega arith) add-a loop-less loop-again (λ c. omega arith) returns)

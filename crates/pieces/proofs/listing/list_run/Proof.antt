@@ -21,8 +21,6 @@ returns-2 : tie.Need-returns-2
 returns-2 c = run-entered _ _ _ _ _ (c .if1 .left) (c .before .pre .2)
 
 pub list-run-spec : {M : Type 1} → statement M
-list-run-spec =
-    tie.close
-    (tie.spec
-    returns (λ c. search needs) (λ c. search needs) (λ c. search needs) (λ c. search needs) (λ c. search needs) slice-write-list-2
-    (λ c. search needs) (λ c. search needs) (λ c. search needs) slice-write-list-3 (λ c. search needs) (λ c. search needs) returns-2)
+list-run-spec = tie.close (tie.spec returns (λ c. search needs) (λ c. search needs) (λ c. search needs) (λ c. search needs) (λ c. search needs)
+    slice-write-list-2 (λ c. search needs) (λ c. search needs) (λ c. search needs) slice-write-list-3 (λ c. search needs) (λ c. search needs)
+    returns-2)

@@ -2,7 +2,7 @@
 use mathlib.Core.Path.{_∙_, sym}
 use borrow.Author.Tests.{eq-eqb, ne-eqb}
 use borrow.Author.Needs.{needs}
-use Rattle.pieces.proofs.Steps.{roomy-fitting}
+use Rattle.pieces.proofs.LoopSteps.{roomy-fitting}
 use Rattle.pieces.proofs.placing.place_digit.Statement.{statement}
 use Rattle.pieces.proofs.placing.place_digit.Tie as tie
 

@@ -5,7 +5,7 @@ use Prim.Native.Nat.{ℕ, _≤_, _-_}
 use native.Mathlib.Omega.{arith}
 use lib.ListN.{length, length-set}
 use Rattle.pieces.specs.Tidying as tidying
-use Rattle.pieces.proofs.Steps.{clear-hit, clear-miss}
+use Rattle.pieces.proofs.LoopSteps.{clear-hit, clear-miss}
 use Rattle.pieces.proofs.tidying.clear.Statement.{statement}
 use Rattle.pieces.proofs.tidying.clear.Tie as tie
 
@@ -19,35 +19,12 @@ loop-holds : tie.Need-loop-holds Inv-loop μ-loop
 unfolding tidying.clear
 loop-holds c = (omega arith, refl, refl)
 
-mul-if1 : tie.Need-mul-if1 Inv-loop μ-loop
-mul-if1 c = omega arith
-
-slice-read-if1 : tie.Need-slice-read-if1 Inv-loop μ-loop
-slice-read-if1 c = omega arith
-
-mul-board : tie.Need-mul-board Inv-loop μ-loop
-mul-board c = omega arith
-
-slice-write-board : tie.Need-slice-write-board Inv-loop μ-loop
-slice-write-board c = omega arith
-
-add-i : tie.Need-add-i Inv-loop μ-loop
-add-i c = omega arith
-
-loop-less : tie.Need-loop-less Inv-loop μ-loop
-loop-less c = omega arith
-
 loop-again : tie.Need-loop-again Inv-loop μ-loop
 loop-again c = ⊎-elim (λ w. (omega arith, ap length (w .1) ∙ simp length-set (c .before .before .before .loop .inv .1), w .1 ∙ clear-hit _ _ _ (c .before .before .before .loop .inv .2) (w .0 .taken))) (λ w. (omega arith, ap length (w .1) ∙ c .before .before .before .loop .inv .1, w .1 ∙ clear-miss _ _ _ (c .before .before .before .loop .inv .2) (w .0 .left))) (c .if1 .came)
-
-same-length : tie.Need-same-length Inv-loop μ-loop
-same-length c = omega arith
 
 returns : tie.Need-returns Inv-loop μ-loop
 returns c = c .before .loop .inv .2 ∙ ap (λ (k : ℕ). tidying.clear (c .before .before .args .board .now) (c .before .before .args .name) k) (omega arith)
 
 pub clear-spec : {M : Type 1} → statement M
-clear-spec =
-    tie.close
-    (tie.spec
-    Inv-loop μ-loop loop-holds mul-if1 slice-read-if1 mul-board slice-write-board add-i loop-less loop-again same-length returns)
+clear-spec = tie.close (tie.spec Inv-loop μ-loop loop-holds (λ c. omega arith) (λ c. omega arith) (λ c. omega arith) (λ c. omega arith)
+    (λ c. omega arith) (λ c. omega arith) loop-again (λ c. omega arith) returns)

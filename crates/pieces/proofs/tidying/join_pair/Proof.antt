@@ -6,7 +6,7 @@ use borrow.Author.Tests.{le-leb, lt-leb}
 use borrow.Author.Needs.{needs}
 use Rattle.pieces.specs.Tidying as tidying
 use Rattle.pieces.proofs.Joining.{pair-size, pair-ends, apart-first, apart-second}
-use Rattle.pieces.proofs.Steps.{twin-le}
+use Rattle.pieces.proofs.LoopSteps.{twin-le}
 use Rattle.pieces.proofs.tidying.join_pair.Statement.{statement}
 use Rattle.pieces.proofs.tidying.join_pair.Tie as tie
 
@@ -34,8 +34,5 @@ unfolding tidying.join
 returns-2 c = c .before .before .move-run2 .ensures ∙ simp (c .before .before .before .twin2 .ensures, c .before .before .before .before .before .before .before .size-of .ensures, lt-leb (tidying.twin (c .before .before .before .before .before .before .before .before .before .args .v) (c .before .before .before .before .before .before .before .before .before .args .e) + 2 ^ (c .before .before .before .before .before .before .before .before .before .args .e)) (c .before .before .before .before .before .before .before .before .before .args .c) (omega (arith, c .before .before .before .before .before .if1 .left, c .before .before .before .before .before .before .twin .ensures, c .before .before .before .before .before .before .before .size-of .ensures)))
 
 pub join-pair-spec : {M : Type 1} → statement M
-join-pair-spec =
-    tie.close
-    (tie.spec
-    (λ c κs. search needs) twin-requires add-if1 move-run-requires twin-requires-2 move-run-requires-2 (λ c. search needs) returns
-    (λ c. search needs) returns-2)
+join-pair-spec = tie.close (tie.spec (λ c κs. search needs) twin-requires add-if1 move-run-requires twin-requires-2 move-run-requires-2
+    (λ c. search needs) returns (λ c. search needs) returns-2)

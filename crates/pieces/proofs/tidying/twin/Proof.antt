@@ -5,7 +5,7 @@ use lib.Pow.{pow-mono}
 use borrow.Author.Tests.{eq-eqb, ne-eqb}
 use borrow.Author.Needs.{needs}
 use Rattle.pieces.specs.Tidying as tidying
-use Rattle.pieces.proofs.Steps.{odd-start}
+use Rattle.pieces.proofs.LoopSteps.{odd-start}
 use Rattle.pieces.proofs.tidying.twin.Statement.{statement}
 use Rattle.pieces.proofs.tidying.twin.Tie as tie
 
@@ -24,6 +24,4 @@ unfolding tidying.twin
 returns-2 c = sym (simp (ne-eqb _ _ (c .before .if1 .left), c .size-of2 .ensures))
 
 pub twin-spec : {M : Type 1} → statement M
-twin-spec =
-    tie.close
-    (tie.spec (λ c. search needs) (λ c κs. search needs) add-result returns (λ c κs. search needs) sub-result returns-2)
+twin-spec = tie.close (tie.spec (λ c. search needs) (λ c κs. search needs) add-result returns (λ c κs. search needs) sub-result returns-2)

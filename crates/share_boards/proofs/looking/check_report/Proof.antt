@@ -1,5 +1,4 @@
--- `share_boards::looking::check_report` meets its contract.
--- Assumes nothing.
+-- `share_boards::looking::check_report` meets its contract. Assumes nothing.
 use borrow.Author.Needs.{needs}
 use mathlib.Core.Path.{refl, sym, _∙_}
 use Rattle.share_boards.specs.Looking.{reportingCheck}
@@ -23,7 +22,5 @@ returns-2 c =
     rw e (c .check-remove .ensures ∙ rw n (ready-held _ _ (share-ready _ _ _ _ e) _))
 
 pub check-report-spec : {M : Type 1} → statement M
-check-report-spec =
-    tie.close
-    (tie.spec
-    (λ c κs. search needs) (λ c. search needs) (λ c. search needs) (λ c κs. search needs) check-remove-requires returns returns-2)
+check-report-spec = tie.close (tie.spec (λ c κs. search needs) (λ c. search needs) (λ c. search needs) (λ c κs. search needs) check-remove-requires
+    returns returns-2)

@@ -1,5 +1,4 @@
--- `share_boards::looking::check_round` meets its contract.
--- Assumes nothing.
+-- `share_boards::looking::check_round` meets its contract. Assumes nothing.
 use borrow.Author.Needs.{needs}
 use mathlib.Core.Path.{sym, _∙_}
 use Rattle.share_boards.specs.Looking.{roundingCheck}
@@ -15,7 +14,4 @@ unfolding roundingCheck
 returns-2 c = rw (sym (c .before .before .before .check-shares .ensures) ∙ c .before .enum-told .given .1) (c .check-round .ensures)
 
 pub check-round-spec : {M : Type 1} → statement M
-check-round-spec =
-    tie.close
-    (tie.spec
-    (λ c κs. search needs) (λ c. search needs) (λ c. search needs) (λ c κs. search needs) returns returns-2)
+check-round-spec = tie.close (tie.spec (λ c κs. search needs) (λ c. search needs) (λ c. search needs) (λ c κs. search needs) returns returns-2)

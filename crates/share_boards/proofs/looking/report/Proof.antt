@@ -1,11 +1,11 @@
--- `share_boards::looking::report` meets its contract.
--- Assumes nothing.
+-- `share_boards::looking::report` meets its contract. Assumes nothing.
 use borrow.Author.Needs.{needs}
 use mathlib.Core.Path.{sym, _∙_}
 use Prim.Native.Nat.{_≤_}
 use native.Mathlib.Omega.{arith}
 use lib.Count.{ones-le}
-use Rattle.share_boards.proofs.Looks.{ready-sized, ready-position, ready-shared, reporting-clear, served-le, count-le, spaced-le, pieces-told}
+use Rattle.calls.proofs.Laws.{count-small}
+use Rattle.share_boards.proofs.Looks.{ready-sized, ready-position, ready-shared, reporting-clear, served-le, spaced-le, pieces-told}
 use Rattle.share_boards.proofs.looking.report.Statement.{statement}
 use Rattle.share_boards.proofs.looking.report.Tie as tie
 
@@ -15,7 +15,7 @@ bounded c =
     let q = reporting-clear _ _ _ _ (sym (c .before .before .before .before .before .before .check-report .ensures) ∙ c .before .before .before .before .enum-told .given .1) in
     let z = ready-sized _ _ (q .ready) in
     let few = z .few in
-    let leaves = count-le _ _ _ _ (c .before .before .weigh .ensures) in
+    let leaves = count-small _ _ _ _ (c .before .before .weigh .ensures) in
     let served = served-le _ _ _ q in
     let spaced = spaced-le _ _ _ q in
     (omega arith, omega (arith, c .before .weight-served .ensures), omega (arith, c .spacing .ensures))
@@ -61,8 +61,5 @@ returns-2 c =
     (simp (e, w, r, c .spacing .ensures, n), simp (e, w, r, c .spacing .ensures, n))
 
 pub report-spec : {M : Type 1} → statement M
-report-spec =
-    tie.close
-    (tie.spec
-    (λ c κs. search needs) (λ c. search needs) (λ c. search needs) (λ c. search needs) weigh-requires weight-served-requires
-    spacing-requires cast-t16 cast-t18 cast-t19 returns returns-2)
+report-spec = tie.close (tie.spec (λ c κs. search needs) (λ c. search needs) (λ c. search needs) (λ c. search needs) weigh-requires
+    weight-served-requires spacing-requires cast-t16 cast-t18 cast-t19 returns returns-2)

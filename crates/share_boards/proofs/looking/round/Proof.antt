@@ -1,5 +1,4 @@
--- `share_boards::looking::round` meets its contract.
--- Assumes nothing.
+-- `share_boards::looking::round` meets its contract. Assumes nothing.
 use borrow.Author.Needs.{needs}
 use mathlib.Core.Path.{sym, _∙_}
 use Rattle.share_boards.proofs.Looks.{rounding-done}
@@ -20,8 +19,5 @@ returns-2 c =
     (simp e, simp e, simp (e, c .before .before .write-round .ensures))
 
 pub round-spec : {M : Type 1} → statement M
-round-spec =
-    tie.close
-    (tie.spec
-    (λ c κs. search needs) (λ c. search needs) (λ c. search needs) (λ c. search needs) write-round-requires returns (λ c. search needs)
-    returns-2)
+round-spec = tie.close (tie.spec (λ c κs. search needs) (λ c. search needs) (λ c. search needs) (λ c. search needs) write-round-requires returns
+    (λ c. search needs) returns-2)

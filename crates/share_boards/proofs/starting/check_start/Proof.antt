@@ -1,5 +1,4 @@
--- `share_boards::starting::check_start` meets its contract.
--- Assumes nothing.
+-- `share_boards::starting::check_start` meets its contract. Assumes nothing.
 use borrow.Author.Needs.{needs}
 use mathlib.Core.Path.{_∙_}
 use Rattle.share_boards.proofs.starting.check_start.Statement.{statement}

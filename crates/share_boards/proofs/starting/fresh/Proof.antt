@@ -1,5 +1,4 @@
--- `share_boards::starting::fresh` meets its contract.
--- Assumes nothing.
+-- `share_boards::starting::fresh` meets its contract. Assumes nothing.
 use borrow.Author.Needs.{needs}
 use mathlib.Core.Path.{sym, _∙_}
 use Rattle.share_boards.proofs.Looks.{ready-sized, ready-shared}
@@ -42,9 +41,6 @@ returns-2 c =
     fresh-done _ _ _ _ _ _ e (c .before .before .before .before .before .before .before .before .before .before .before .before .before .before .before .before .remember .result) (c .before .before .before .before .before .before .before .before .before .before .before .before .before .before .before .before .remember .ensures) (c .before .before .before .before .before .before .before .before .before .before .before .before .before .before .lay-out .ensures) (k .0) (k .1) (k .2)
 
 pub fresh-spec : {M : Type 1} → statement M
-fresh-spec =
-    tie.close
-    (tie.spec
-    (λ c κs. search needs) (λ c. search needs) (λ c. search needs) (λ c. search needs) remember-requires lay-out-requires
+fresh-spec = tie.close (tie.spec (λ c κs. search needs) (λ c. search needs) (λ c. search needs) (λ c. search needs) remember-requires lay-out-requires
     (λ c. search needs) settle-tables-requires (λ c. search needs) (λ c. search needs) (λ c. search needs) (λ c. search needs) returns
     (λ c. search needs) (λ c. search needs) (λ c. search needs) (λ c. search needs) returns-2)

@@ -1,5 +1,4 @@
--- `shares::carrying::admit_over` meets its contract.
--- Assumes nothing.
+-- `shares::carrying::admit_over` meets its contract. Assumes nothing.
 use native.Mathlib.Omega.{arith}
 use mathlib.Core.Path.{sym}
 use Rattle.calls.proofs.Laws.{change-slot, slot-sized}
@@ -24,8 +23,6 @@ returns-3 : tie.Need-returns-3
 returns-3 c = let a = c .before .before .before .before .before .before .before .before .before .before .before .before .before .before .before .before .args in over-done _ _ (a .rates .now) _ (a .weight) _ (c .before .before .before .before .before .before .before .before .before .before .before .before .asked-for .ensures) _ _ (c .before .before .before .before .before .before .before .before .before .before .before .add-by .ensures) _ (c .before .before .before .before .before .before .before .answer3 .given .1) _ (c .before .before .enter-rate .ensures)
 
 pub admit-over-spec : {M : Type 1} → statement M
-admit-over-spec =
-    tie.close
-    (tie.spec
-    (λ c κs. search needs) (λ c κs. search needs) (λ c. search needs) (λ c. search needs) (λ c. search needs) (λ c. search needs)
-    enter-rate-requires (λ c. search needs) returns (λ c. search needs) returns-2 (λ c. search needs) (λ c. search needs) returns-3)
+admit-over-spec = tie.close (tie.spec (λ c κs. search needs) (λ c κs. search needs) (λ c. search needs) (λ c. search needs) (λ c. search needs)
+    (λ c. search needs) enter-rate-requires (λ c. search needs) returns (λ c. search needs) returns-2 (λ c. search needs) (λ c. search needs)
+    returns-3)

@@ -1,5 +1,4 @@
--- `shares::carrying::carry_out` meets its contract.
--- Assumes nothing.
+-- `shares::carrying::carry_out` meets its contract. Assumes nothing.
 use mathlib.Core.Path.{sym, _∙_, refl}
 use Rattle.shares.specs.States.{lent}
 use Rattle.shares.proofs.Readying.{ready-change}
@@ -43,8 +42,5 @@ returns-3 c =
     (k .0 ∙ sym (plain-said (a .drive) s (a .order) m n), same-lent (k .1) refl refl refl ∙ sym (plain-state (a .drive) s (a .order) m n))
 
 pub carry-out-spec : {M : Type 1} → statement M
-carry-out-spec =
-    tie.close
-    (tie.spec
-    remove-settled-requires (λ c. search needs) (λ c. search needs) (λ c. search needs) (λ c. search needs) returns admit-over-requires
-    (λ c. search needs) (λ c. search needs) returns-2 carry-out-requires (λ c. search needs) returns-3)
+carry-out-spec = tie.close (tie.spec remove-settled-requires (λ c. search needs) (λ c. search needs) (λ c. search needs) (λ c. search needs) returns
+    admit-over-requires (λ c. search needs) (λ c. search needs) returns-2 carry-out-requires (λ c. search needs) returns-3)

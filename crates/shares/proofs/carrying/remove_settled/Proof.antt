@@ -1,5 +1,4 @@
--- `shares::carrying::remove_settled` meets its contract.
--- Assumes nothing.
+-- `shares::carrying::remove_settled` meets its contract. Assumes nothing.
 use native.Mathlib.Omega.{arith}
 use mathlib.Core.Path.{sym}
 use Rattle.calls.proofs.Laws.{change-slot, slot-sized}
@@ -30,10 +29,6 @@ returns-3 c =
     remove-done _ _ (a .rates .now) (a .owed .now) (a .owed-other .now) _ _ _ (c .before .before .before .before .before .before .before .before .before .before .before .before .before .before .before .before .before .remove-by .ensures) _ (c .before .before .before .before .before .before .before .before .before .before .before .before .before .answer3 .given .1) _ (c .before .before .before .before .before .before .before .before .before .before .before .before .before .before .before .before .before .before .before .remember .ensures) _ _ _ (k .0) (k .1) (k .2)
 
 pub remove-settled-spec : {M : Type 1} → statement M
-remove-settled-spec =
-    tie.close
-    (tie.spec
-    (λ c. search needs) remember-requires
-    (λ c κs. search needs) (λ c. search needs) (λ c. search needs) (λ c. search needs) (λ c. search needs) settle-tables-requires
-    (λ c. search needs) returns (λ c. search needs) returns-2
-    (λ c. search needs) (λ c. search needs) (λ c. search needs) (λ c. search needs) returns-3)
+remove-settled-spec = tie.close (tie.spec (λ c. search needs) remember-requires (λ c κs. search needs) (λ c. search needs) (λ c. search needs)
+    (λ c. search needs) (λ c. search needs) settle-tables-requires (λ c. search needs) returns (λ c. search needs) returns-2 (λ c. search needs)
+    (λ c. search needs) (λ c. search needs) (λ c. search needs) returns-3)

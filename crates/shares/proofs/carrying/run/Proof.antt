@@ -1,5 +1,4 @@
--- `shares::carrying::run` meets its contract.
--- Assumes nothing.
+-- `shares::carrying::run` meets its contract. Assumes nothing.
 use mathlib.Core.Path.{_∙_}
 use Rattle.shares.proofs.Running.{ran-all}
 use borrow.Author.Needs.{needs}
@@ -14,8 +13,5 @@ returns c =
     (r .0, c .before .before .settle .ensures ∙ r .1)
 
 pub run-spec : {M : Type 1} → statement M
-run-spec =
-    tie.close
-    (tie.spec
-    (λ c κs. search needs) (λ c. search needs) (λ c κs. search needs) (λ c κs. search needs) (λ c. search needs) (λ c. search needs)
-    (λ c. search needs) (λ c. search needs) (λ c. search needs) returns)
+run-spec = tie.close (tie.spec (λ c κs. search needs) (λ c. search needs) (λ c κs. search needs) (λ c κs. search needs) (λ c. search needs)
+    (λ c. search needs) (λ c. search needs) (λ c. search needs) (λ c. search needs) returns)

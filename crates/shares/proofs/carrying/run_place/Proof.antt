@@ -1,5 +1,4 @@
--- `shares::carrying::run_place` meets its contract.
--- Assumes nothing.
+-- `shares::carrying::run_place` meets its contract. Assumes nothing.
 use borrow.Author.Needs.{needs}
 use Rattle.shares.proofs.carrying.run_place.Statement.{statement}
 use Rattle.shares.proofs.carrying.run_place.Tie as tie
@@ -14,9 +13,5 @@ returns c =
     (simp o at (k .1), simp (c .before .before .answer-at .ensures, c .before .before .before .as-kept .ensures, k .0, o))
 
 pub run-place-spec : {M : Type 1} → statement M
-run-place-spec =
-    tie.close
-    (tie.spec
-    (λ c κs. search needs) carry-out-requires
-    (λ c κs. search needs) (λ c κs. search needs) (λ c. search needs) (λ c. search needs) (λ c. search needs) (λ c. search needs)
-    (λ c. search needs) returns)
+run-place-spec = tie.close (tie.spec (λ c κs. search needs) carry-out-requires (λ c κs. search needs) (λ c κs. search needs) (λ c. search needs)
+    (λ c. search needs) (λ c. search needs) (λ c. search needs) (λ c. search needs) returns)

@@ -1,5 +1,4 @@
--- `shares::carrying::run_places` meets its contract.
--- Assumes nothing.
+-- `shares::carrying::run_places` meets its contract. Assumes nothing.
 use native.Mathlib.Omega.{arith}
 use mathlib.Core.Path.{_≡_, refl, sym, _∙_}
 use Prim.Native.Nat.{_-_, _≤_}
@@ -14,8 +13,7 @@ use Rattle.shares.proofs.carrying.run_places.Statement.{statement}
 use Rattle.shares.proofs.carrying.run_places.Tie as tie
 
 abbrev Inv-loop : tie.InvT-loop
-Inv-loop drive board₀ list₀ rates₀ owed₀ owed-other₀ first end i₀ board list rates owed owed-other i =
-    (first ≤ i)
+Inv-loop drive board₀ list₀ rates₀ owed₀ owed-other₀ first end i₀ board list rates owed owed-other i = (first ≤ i)
     × ((length board ≡ length board₀) × (length list ≡ length list₀) × (length rates ≡ length rates₀) × (length owed ≡ length owed₀) × (length owed-other ≡ length owed-other₀))
     × Ready drive (lent board rates owed owed-other)
     × (stateFrom (doing drive) (saying drive) (lent board rates owed owed-other) list i (end - i) ≡ stateFrom (doing drive) (saying drive) (lent board₀ rates₀ owed₀ owed-other₀) list₀ first (end - first))
@@ -73,8 +71,5 @@ returns c =
     (sym (state-none (doing (a .drive)) (saying (a .drive)) s (w .list) (w .i) (a .end) (omega arith)) ∙ v .3, sym (list-none (doing (a .drive)) (saying (a .drive)) s (w .list) (w .i) (a .end) (omega arith)) ∙ v .4)
 
 pub run-places-spec : {M : Type 1} → statement M
-run-places-spec =
-    tie.close
-    (tie.spec
-    Inv-loop μ-loop loop-holds run-place-requires add-i loop-less loop-again same-length same-length-2 same-length-3 same-length-4
-    same-length-5 returns)
+run-places-spec = tie.close (tie.spec Inv-loop μ-loop loop-holds run-place-requires add-i loop-less loop-again same-length same-length-2 same-length-3
+    same-length-4 same-length-5 returns)

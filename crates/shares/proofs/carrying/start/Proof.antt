@@ -1,5 +1,4 @@
--- `shares::carrying::start` meets its contract.
--- Assumes nothing.
+-- `shares::carrying::start` meets its contract. Assumes nothing.
 use mathlib.Core.Path.{_∙_}
 use borrow.Author.Needs.{needs}
 use Rattle.shares.proofs.carrying.start.Statement.{statement}
@@ -18,7 +17,5 @@ returns-2 : tie.Need-returns-2
 returns-2 c = let e = c .if1 .left in (simp e, simp e)
 
 pub start-spec : {M : Type 1} → statement M
-start-spec =
-    tie.close
-    (tie.spec
-    run-requires (λ c. search needs) (λ c. search needs) (λ c. search needs) (λ c. search needs) (λ c. search needs) returns returns-2)
+start-spec = tie.close (tie.spec run-requires (λ c. search needs) (λ c. search needs) (λ c. search needs) (λ c. search needs) (λ c. search needs)
+    returns returns-2)

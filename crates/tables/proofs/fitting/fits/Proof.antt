@@ -1,5 +1,4 @@
--- `tables::fitting::fits` meets its contract.
--- Assumes nothing.
+-- `tables::fitting::fits` meets its contract. Assumes nothing.
 use borrow.Author.Needs.{needs}
 use mathlib.Core.Path.{refl, sym, _∙_}
 use native.Mathlib.Omega.{arith}
@@ -26,26 +25,21 @@ returns-2 c =
     rw (fits-two _ _ _ _ _, sym (c .before .before .before .before .before .weights .ensures .test) ∙ not-false _ (c .before .before .before .if1 .left), sym (c .before .rates-fit .ensures) ∙ not-true _ (c .if2 .taken)) refl
 
 returns-3 : tie.Need-returns-3
-returns-3 c =
-    rw (
-      fits-two _ _ _ _ _,
-      sym (c .before .before .before .before .before .before .before .weights .ensures .test) ∙ not-false _ (c .before .before .before .before .before .if1 .left),
-      sym (c .before .before .before .rates-fit .ensures) ∙ not-false _ (c .before .before .if2 .left),
-      sym (c .before .owed-fit .ensures) ∙ not-true _ (c .if3 .taken),
-    ) refl
+returns-3 c = rw (
+  fits-two _ _ _ _ _,
+  sym (c .before .before .before .before .before .before .before .weights .ensures .test) ∙ not-false _ (c .before .before .before .before .before .if1 .left),
+  sym (c .before .before .before .rates-fit .ensures) ∙ not-false _ (c .before .before .if2 .left),
+  sym (c .before .owed-fit .ensures) ∙ not-true _ (c .if3 .taken),
+) refl
 
 returns-4 : tie.Need-returns-4
-returns-4 c =
-    rw (
-      fits-two _ _ _ _ _,
-      sym (c .before .before .before .before .before .before .before .before .weights .ensures .test) ∙ not-false _ (c .before .before .before .before .before .before .if1 .left),
-      sym (c .before .before .before .before .rates-fit .ensures) ∙ not-false _ (c .before .before .before .if2 .left),
-      sym (c .before .before .owed-fit .ensures) ∙ not-false _ (c .before .if3 .left),
-    ) (c .owed-fit2 .ensures)
+returns-4 c = rw (
+  fits-two _ _ _ _ _,
+  sym (c .before .before .before .before .before .before .before .before .weights .ensures .test) ∙ not-false _ (c .before .before .before .before .before .before .if1 .left),
+  sym (c .before .before .before .before .rates-fit .ensures) ∙ not-false _ (c .before .before .before .if2 .left),
+  sym (c .before .before .owed-fit .ensures) ∙ not-false _ (c .before .if3 .left),
+) (c .owed-fit2 .ensures)
 
 pub fits-spec : {M : Type 1} → statement M
-fits-spec =
-    tie.close
-    (tie.spec
-    (λ c κs. search needs) (λ c. search needs) weights-requires returns (λ c. search needs) rates-fit-requires returns-2
+fits-spec = tie.close (tie.spec (λ c κs. search needs) (λ c. search needs) weights-requires returns (λ c. search needs) rates-fit-requires returns-2
     (λ c κs. search needs) returns-3 (λ c κs. search needs) returns-4)

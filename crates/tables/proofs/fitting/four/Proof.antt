@@ -1,5 +1,4 @@
--- `tables::fitting::four` meets its contract.
--- Assumes nothing.
+-- `tables::fitting::four` meets its contract. Assumes nothing.
 use borrow.Author.Needs.{needs}
 use Prim.Native.Nat.{_+_}
 use native.Mathlib.Omega.{arith}
@@ -32,9 +31,6 @@ returns : tie.Need-returns
 returns c = (sum-four (c .before .before .before .before .args .table .now) (c .before .before .before .before .args .i), omega (arith, c .before .before .before .shared-slice-known .given (c .before .before .before .before .args .i), c .before .before .shared-slice-known2 .given (c .before .before .before .before .args .i + 1), c .before .shared-slice-known3 .given (c .before .before .before .before .args .i + 2), c .shared-slice-known4 .given (c .before .before .before .before .args .i + 3)))
 
 pub four-spec : {M : Type 1} → statement M
-four-spec =
-    tie.close
-    (tie.spec
-    (λ c. search needs) (λ c. search needs) cast-result (λ c. search needs) (λ c. search needs) (λ c. search needs) cast-result-2
-    add-result-2 (λ c. search needs) (λ c. search needs) (λ c. search needs) cast-result-3 add-result-4
-    (λ c. search needs) (λ c. search needs) (λ c. search needs) cast-result-4 add-result-6 returns)
+four-spec = tie.close (tie.spec (λ c. search needs) (λ c. search needs) cast-result (λ c. search needs) (λ c. search needs) (λ c. search needs)
+    cast-result-2 add-result-2 (λ c. search needs) (λ c. search needs) (λ c. search needs) cast-result-3 add-result-4 (λ c. search needs)
+    (λ c. search needs) (λ c. search needs) cast-result-4 add-result-6 returns)

@@ -1,5 +1,4 @@
--- `tables::fitting::in_range` meets its contract.
--- Assumes nothing.
+-- `tables::fitting::in_range` meets its contract. Assumes nothing.
 use borrow.Author.Needs.{needs}
 use lib.Bits.{and-le-l}
 use Rattle.tables.proofs.Holding.{range-told}

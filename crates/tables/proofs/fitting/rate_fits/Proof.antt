@@ -1,5 +1,4 @@
--- `tables::fitting::rate_fits` meets its contract.
--- Assumes nothing.
+-- `tables::fitting::rate_fits` meets its contract. Assumes nothing.
 use borrow.Author.Needs.{needs}
 use native.Mathlib.Omega.{arith}
 use borrow.Author.Tests.{eq-eqb, ne-eqb}
@@ -39,7 +38,4 @@ returns-4 c =
     simp (s, t, u, c .before .before .held-for .ensures)
 
 pub rate-fits-spec : {M : Type 1} → statement M
-rate-fits-spec =
-    tie.close
-    (tie.spec
-    returns returns-2 (λ c κs. search needs) number-of-requires returns-3 rem-result returns-4)
+rate-fits-spec = tie.close (tie.spec returns returns-2 (λ c κs. search needs) number-of-requires returns-3 rem-result returns-4)

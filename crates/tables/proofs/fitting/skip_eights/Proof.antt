@@ -1,5 +1,4 @@
--- `tables::fitting::skip_eights` meets its contract.
--- Assumes nothing.
+-- `tables::fitting::skip_eights` meets its contract. Assumes nothing.
 use Prim.Native.Nat.{_+_, _-_, _≤_}
 use native.Mathlib.Omega.{arith}
 use Rattle.tables.specs.Looking as looking
@@ -51,7 +50,5 @@ returns-2 : tie.Need-returns-2 Inv-loop μ-loop
 returns-2 c = c .before .loop .inv .1
 
 pub skip-eights-spec : {M : Type 1} → statement M
-skip-eights-spec =
-    tie.close
-    (tie.spec
-    Inv-loop μ-loop loop-holds add-loop four-requires add-four four-requires-2 add-if1 returns add-j loop-less loop-again returns-2)
+skip-eights-spec = tie.close (tie.spec Inv-loop μ-loop loop-holds add-loop four-requires add-four four-requires-2 add-if1 returns add-j loop-less
+    loop-again returns-2)

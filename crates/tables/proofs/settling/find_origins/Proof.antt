@@ -1,5 +1,4 @@
--- `tables::settling::find_origins` meets its contract.
--- Assumes nothing.
+-- `tables::settling::find_origins` meets its contract. Assumes nothing.
 use borrow.Author.Needs.{needs}
 use mathlib.Core.Path.{refl, ap, _∙_}
 use mathlib.Core.List.{List}
@@ -9,7 +8,7 @@ use lib.ListN.{getD}
 use Rattle.names.proofs.Laws.{blank-empty}
 use Rattle.tables.specs.Looking as looking
 use Rattle.tables.proofs.Entries.{written-at}
-use Rattle.tables.proofs.Noting.{origins-found}
+use Rattle.tables.proofs.Marking.{origins-found}
 use Rattle.tables.proofs.settling.find_origins.Statement.{statement}
 use Rattle.tables.proofs.settling.find_origins.Tie as tie
 
@@ -28,7 +27,5 @@ returns c =
     ∙ written-at (λ j. looking.origin (a .args .c) M (a .args .board .now) j) (a .args .from .now) (a .args .c) i (omega (arith, a .pre .3)) h)
 
 pub find-origins-spec : {M : Type 1} → statement M
-find-origins-spec =
-    tie.close
-    (tie.spec
-    (λ c κs. search needs) (λ c. search needs) mark-leaves-requires (λ c. search needs) take-marks-requires (λ c. search needs) returns)
+find-origins-spec = tie.close (tie.spec (λ c κs. search needs) (λ c. search needs) mark-leaves-requires (λ c. search needs) take-marks-requires
+    (λ c. search needs) returns)

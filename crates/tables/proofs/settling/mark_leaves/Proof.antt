@@ -1,18 +1,16 @@
--- `tables::settling::mark_leaves` meets its contract.
--- Assumes nothing.
-use borrow.Author.Needs.{needs}
+-- `tables::settling::mark_leaves` meets its contract. Assumes nothing.
 use mathlib.Core.Path.{_≡_, refl, sym, ap, _∙_}
 use Prim.Native.Nat.{ℕ, _-_, _≤_, _<_}
 use native.Mathlib.Omega.{arith}
 use lib.ListN.{getD}
-use Rattle.names.specs.Table.{Table, taken, numberOf}
+use Rattle.names.specs.Table.{Table, rowsTaken, numberUnder}
 use Rattle.tables.specs.Looking as looking
-use Rattle.tables.proofs.Noting.{marked-start, marked-end, marked-next}
+use Rattle.tables.proofs.Marking.{marked-start, marked-end, marked-next}
 use Rattle.tables.proofs.settling.mark_leaves.Statement.{statement}
 use Rattle.tables.proofs.settling.mark_leaves.Tie as tie
 
 abbrev Inv-loop : tie.InvT-loop
-Inv-loop board c marks₀ i₀ marks i = (i ≤ c) × Table marks × (taken marks ≤ i) × ((x : ℕ) → x < 65536 → numberOf marks x ≡ looking.marked c board i x)
+Inv-loop board c marks₀ i₀ marks i = (i ≤ c) × Table marks × (rowsTaken marks ≤ i) × ((x : ℕ) → x < 65536 → numberUnder marks x ≡ looking.marked c board i x)
 
 abbrev μ-loop : tie.MeasureT-loop
 μ-loop board c marks₀ i₀ marks i = c - i
@@ -22,12 +20,6 @@ loop-holds c =
     let e = c .before .before .pre .2 in
     (omega arith, e .table, omega (arith, e .none), λ x l. e .numbers x ∙ sym (marked-start _ _ x))
 
-mul-mark-leaf : tie.Need-mul-mark-leaf Inv-loop μ-loop
-mul-mark-leaf c = omega arith
-
-shared-slice-read-mark-leaf : tie.Need-shared-slice-read-mark-leaf Inv-loop μ-loop
-shared-slice-read-mark-leaf c = omega arith
-
 cast-mark-leaf : tie.Need-cast-mark-leaf Inv-loop μ-loop
 cast-mark-leaf c = omega (arith, c .shared-slice-known2 .given (c .before .before .before .loop .i))
 
@@ -35,12 +27,6 @@ mark-leaf-requires : tie.Need-mark-leaf-requires Inv-loop μ-loop
 mark-leaf-requires c κs =
     let L = c .before .before .before .loop in
     (omega (arith, c .shared-slice-known2 .given (L .i)), omega arith, L .inv .1, omega (arith, L .inv .2))
-
-add-i : tie.Need-add-i Inv-loop μ-loop
-add-i c = omega arith
-
-loop-less : tie.Need-loop-less Inv-loop μ-loop
-loop-less c = omega arith
 
 loop-again : tie.Need-loop-again Inv-loop μ-loop
 loop-again c =
@@ -62,8 +48,5 @@ returns c =
     }
 
 pub mark-leaves-spec : {M : Type 1} → statement M
-mark-leaves-spec =
-    tie.close
-    (tie.spec
-    Inv-loop μ-loop loop-holds mul-mark-leaf shared-slice-read-mark-leaf cast-mark-leaf mark-leaf-requires add-i loop-less loop-again
-    same-length returns)
+mark-leaves-spec = tie.close (tie.spec Inv-loop μ-loop loop-holds (λ c. omega arith) (λ c. omega arith) cast-mark-leaf mark-leaf-requires
+    (λ c. omega arith) (λ c. omega arith) loop-again same-length returns)

@@ -1,5 +1,4 @@
--- `tables::settling::place_entries` meets its contract.
--- Assumes nothing.
+-- `tables::settling::place_entries` meets its contract. Assumes nothing.
 use borrow.Author.Needs.{needs}
 use mathlib.Core.Path.{_≡_, refl, ap, _∙_}
 use Prim.Native.Nat.{ℕ, _-_, _≤_}
@@ -13,7 +12,7 @@ use Rattle.tables.proofs.settling.place_entries.Statement.{statement}
 use Rattle.tables.proofs.settling.place_entries.Tie as tie
 
 abbrev Inv-loop : tie.InvT-loop
-Inv-loop table₀ c from old i₀ table i = (i ≤ c) × (length table ≡ length table₀) × (table ≡ settled.written (λ j. looking.fetched old (getD from j 0)) i table₀)
+Inv-loop table₀ c from old i₀ table i = (i ≤ c) × (length table ≡ length table₀) × (table ≡ settled.written (λ j. looking.markedEntry old (getD from j 0)) i table₀)
 
 abbrev μ-loop : tie.MeasureT-loop
 μ-loop table₀ c from old i₀ table i = c - i
@@ -21,39 +20,18 @@ abbrev μ-loop : tie.MeasureT-loop
 loop-holds : tie.Need-loop-holds Inv-loop μ-loop
 loop-holds c = (omega arith, refl, written-none _ _)
 
-mul-fetch-entry : tie.Need-mul-fetch-entry Inv-loop μ-loop
-mul-fetch-entry c = omega arith
-
-shared-slice-read-fetch-entry : tie.Need-shared-slice-read-fetch-entry Inv-loop μ-loop
-shared-slice-read-fetch-entry c = omega arith
-
 cast-fetch-entry : tie.Need-cast-fetch-entry Inv-loop μ-loop
 cast-fetch-entry c = omega (arith, c .shared-slice-known3 .given (c .before .before .loop .i))
 
 fetch-entry-requires : tie.Need-fetch-entry-requires Inv-loop μ-loop
 fetch-entry-requires c κs = omega (arith, c .before .before .before .before .before .before .pre .4 (c .before .before .loop .i) (omega arith))
 
-mul-table : tie.Need-mul-table Inv-loop μ-loop
-mul-table c = omega arith
-
-slice-write-table : tie.Need-slice-write-table Inv-loop μ-loop
-slice-write-table c = omega arith
-
-add-i : tie.Need-add-i Inv-loop μ-loop
-add-i c = omega arith
-
-loop-less : tie.Need-loop-less Inv-loop μ-loop
-loop-less c = omega arith
-
 loop-again : tie.Need-loop-again Inv-loop μ-loop
 loop-again c = (omega arith, simp length-set (c .before .before .before .loop .inv .1), rw (add-one (c .before .before .before .loop .i)) (written-more _ _ _ _ _ (c .before .before .before .loop .inv .2) (c .fetch-entry .ensures)))
 
 returns : tie.Need-returns Inv-loop μ-loop
-returns c = c .before .loop .inv .2 ∙ ap (λ (k : ℕ). settled.written (λ j. looking.fetched (c .before .before .before .before .before .args .old .now) (getD (c .before .before .before .before .before .args .from .now) j 0)) k (c .before .before .before .before .before .args .table .now)) (omega arith)
+returns c = c .before .loop .inv .2 ∙ ap (λ (k : ℕ). settled.written (λ j. looking.markedEntry (c .before .before .before .before .before .args .old .now) (getD (c .before .before .before .before .before .args .from .now) j 0)) k (c .before .before .before .before .before .args .table .now)) (omega arith)
 
 pub place-entries-spec : {M : Type 1} → statement M
-place-entries-spec =
-    tie.close
-    (tie.spec
-    Inv-loop μ-loop loop-holds mul-fetch-entry shared-slice-read-fetch-entry cast-fetch-entry fetch-entry-requires mul-table
-    slice-write-table add-i loop-less loop-again (λ c. search needs) returns)
+place-entries-spec = tie.close (tie.spec Inv-loop μ-loop loop-holds (λ c. omega arith) (λ c. omega arith) cast-fetch-entry fetch-entry-requires
+    (λ c. omega arith) (λ c. omega arith) (λ c. omega arith) (λ c. omega arith) loop-again (λ c. search needs) returns)

@@ -1,5 +1,4 @@
--- `tables::settling::remember` meets its contract.
--- Assumes nothing.
+-- `tables::settling::remember` meets its contract. Assumes nothing.
 use borrow.Author.Needs.{needs}
 use mathlib.Core.Path.{ap, _∙_}
 use mathlib.Core.List.{List}
@@ -21,5 +20,4 @@ returns c =
     λ i h. ap (λ (U : List ℕ). getD U i 0) (c .before .copy-table .ensures) ∙ written-at (λ j. getD (a .board .now) j 0) (c .before .before .before .no-entries .result) (a .c) i (omega arith) h
 
 pub remember-spec : {M : Type 1} → statement M
-remember-spec =
-    tie.close (tie.spec (λ c κs. search needs) (λ c. search needs) (λ c κs. search needs) returns)
+remember-spec = tie.close (tie.spec (λ c κs. search needs) (λ c. search needs) (λ c κs. search needs) returns)

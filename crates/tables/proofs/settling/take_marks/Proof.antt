@@ -1,21 +1,19 @@
--- `tables::settling::take_marks` meets its contract.
--- Assumes nothing.
-use borrow.Author.Needs.{needs}
+-- `tables::settling::take_marks` meets its contract. Assumes nothing.
 use mathlib.Core.Path.{_≡_, refl, ap, _∙_}
 use Prim.Native.Nat.{ℕ, _-_, _≤_, _<_}
 use native.Mathlib.Omega.{arith}
 use native.Mathlib.Numerals.{add-one}
 use lib.ListN.{length, getD, length-set}
-use Rattle.names.specs.Table.{Table, numberOf}
+use Rattle.names.specs.Table.{Table, numberUnder}
 use Rattle.tables.specs.Settling as settled
 use Rattle.tables.specs.Looking as looking
 use Rattle.tables.proofs.Entries.{written-none, written-more, written-same}
-use Rattle.tables.proofs.Noting.{unmet-self, unmet-next, unmet-origin, origin-clear}
+use Rattle.tables.proofs.Marking.{unmet-self, unmet-next, unmet-origin, origin-clear}
 use Rattle.tables.proofs.settling.take_marks.Statement.{statement}
 use Rattle.tables.proofs.settling.take_marks.Tie as tie
 
 abbrev Inv-loop : tie.InvT-loop
-Inv-loop board c marks₀ from₀ i₀ marks from i = (i ≤ c) × Table marks × (length from ≡ length from₀) × (from ≡ settled.written (λ j. looking.origin c marks₀ board j) i from₀) × ((x : ℕ) → x < 65536 → numberOf marks x ≡ looking.unmet marks₀ board i x)
+Inv-loop board c marks₀ from₀ i₀ marks from i = (i ≤ c) × Table marks × (length from ≡ length from₀) × (from ≡ settled.written (λ j. looking.origin c marks₀ board j) i from₀) × ((x : ℕ) → x < 65536 → numberUnder marks x ≡ looking.unmet marks₀ board i x)
 
 abbrev μ-loop : tie.MeasureT-loop
 μ-loop board c marks₀ from₀ i₀ marks from i = c - i
@@ -29,12 +27,6 @@ loop-holds c =
     let e = c .before .before .take-mark .ensures .1 in
     (omega arith, e .table, refl, written-none _ _, unmet-self (a .marks .now) _ e (a .board .now))
 
-mul-take-mark : tie.Need-mul-take-mark Inv-loop μ-loop
-mul-take-mark c = omega arith
-
-shared-slice-read-take-mark : tie.Need-shared-slice-read-take-mark Inv-loop μ-loop
-shared-slice-read-take-mark c = omega arith
-
 cast-take-mark : tie.Need-cast-take-mark Inv-loop μ-loop
 cast-take-mark c = omega (arith, c .shared-slice-known2 .given (c .before .before .before .loop .i))
 
@@ -42,18 +34,6 @@ take-mark-requires-2 : tie.Need-take-mark-requires-2 Inv-loop μ-loop
 take-mark-requires-2 c κs =
     let L = c .before .before .before .loop in
     (omega (arith, c .shared-slice-known2 .given (L .i)), L .inv .1)
-
-mul-from : tie.Need-mul-from Inv-loop μ-loop
-mul-from c = omega arith
-
-slice-write-from : tie.Need-slice-write-from Inv-loop μ-loop
-slice-write-from c = omega arith
-
-add-i : tie.Need-add-i Inv-loop μ-loop
-add-i c = omega arith
-
-loop-less : tie.Need-loop-less Inv-loop μ-loop
-loop-less c = omega arith
 
 loop-again : tie.Need-loop-again Inv-loop μ-loop
 loop-again c =
@@ -86,8 +66,5 @@ returns c =
     ∙ written-same (λ j. looking.origin (a .c) M (a .board .now) j) (λ j. looking.origin (a .c) (a .marks .now) (a .board .now) j) (a .from .now) (a .c) (λ j h. origin-clear (a .marks .now) M (c .before .before .before .before .take-mark .ensures .1) (a .board .now) (a .c) j)
 
 pub take-marks-spec : {M : Type 1} → statement M
-take-marks-spec =
-    tie.close
-    (tie.spec
-    Inv-loop μ-loop take-mark-requires loop-holds mul-take-mark shared-slice-read-take-mark cast-take-mark take-mark-requires-2 mul-from
-    slice-write-from add-i loop-less loop-again same-length same-length-2 returns)
+take-marks-spec = tie.close (tie.spec Inv-loop μ-loop take-mark-requires loop-holds (λ c. omega arith) (λ c. omega arith) cast-take-mark
+    take-mark-requires-2 (λ c. omega arith) (λ c. omega arith) (λ c. omega arith) (λ c. omega arith) loop-again same-length same-length-2 returns)

@@ -1,5 +1,4 @@
--- `tables::turns::spacing` meets its contract.
--- Assumes nothing.
+-- `tables::turns::spacing` meets its contract. Assumes nothing.
 use borrow.Author.Needs.{needs}
 use mathlib.Core.Path.{_≡_, sym, ap, subst, _∙_}
 use mathlib.Core.List.{List}
@@ -49,7 +48,4 @@ returns : tie.Need-returns
 returns c = c .spacing-of .ensures ∙ ap (spacingIn (c .before .before .before .before .before .before .before .before .args .name)) (taken (c .before .before .before))
 
 pub spacing-spec : {M : Type 1} → statement M
-spacing-spec =
-    tie.close
-    (tie.spec
-    (λ c κs. search needs) (λ c. search needs) (λ c κs. search needs) (λ c. search needs) spacing-of-requires returns)
+spacing-spec = tie.close (tie.spec (λ c κs. search needs) (λ c. search needs) (λ c κs. search needs) (λ c. search needs) spacing-of-requires returns)

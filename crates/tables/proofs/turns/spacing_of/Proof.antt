@@ -1,5 +1,4 @@
--- `tables::turns::spacing_of` meets its contract.
--- Assumes nothing.
+-- `tables::turns::spacing_of` meets its contract. Assumes nothing.
 use borrow.Author.Needs.{needs}
 use mathlib.Core.Path.{_≡_, _∙_}
 use mathlib.Core.Logic.{⊎-elim}
@@ -29,20 +28,8 @@ loop-holds : tie.Need-loop-holds Inv-loop μ-loop
 unfolding slotsOf
 loop-holds c = (omega arith, c .none .ensures)
 
-mul-if1 : tie.Need-mul-if1 Inv-loop μ-loop
-mul-if1 c = omega arith
-
-shared-slice-read-if1 : tie.Need-shared-slice-read-if1 Inv-loop μ-loop
-shared-slice-read-if1 c = omega arith
-
 served-at-requires : tie.Need-served-at-requires Inv-loop μ-loop
 served-at-requires c κs = let w = within (c .before .before .before) in omega arith
-
-add-i : tie.Need-add-i Inv-loop μ-loop
-add-i c = omega arith
-
-loop-less : tie.Need-loop-less Inv-loop μ-loop
-loop-less c = omega arith
 
 loop-again : tie.Need-loop-again Inv-loop μ-loop
 loop-again c =
@@ -67,8 +54,5 @@ returns c =
     c .around .ensures ∙ taken-all (a .args .name) (a .args .names .now) (a .args .c) (L .seen) (rw e at (L .inv .1)) (a .pre .0) (a .pre .2)
 
 pub spacing-of-spec : {M : Type 1} → statement M
-spacing-of-spec =
-    tie.close
-    (tie.spec
-    Inv-loop μ-loop (λ c κs. search needs) loop-holds mul-if1 shared-slice-read-if1 served-at-requires add-i loop-less loop-again
-    around-requires returns)
+spacing-of-spec = tie.close (tie.spec Inv-loop μ-loop (λ c κs. search needs) loop-holds (λ c. omega arith) (λ c. omega arith) served-at-requires
+    (λ c. omega arith) (λ c. omega arith) loop-again around-requires returns)

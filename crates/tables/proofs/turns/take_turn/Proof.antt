@@ -1,5 +1,4 @@
--- `tables::turns::take_turn` meets its contract.
--- Assumes nothing.
+-- `tables::turns::take_turn` meets its contract. Assumes nothing.
 use borrow.Author.Needs.{needs}
 use Prim.Native.Nat.{_≤_}
 use native.Mathlib.Omega.{arith}
@@ -56,9 +55,6 @@ returns-3 c =
     (simp (s, t), simp (s, t))
 
 pub take-turn-spec : {M : Type 1} → statement M
-take-turn-spec =
-    tie.close
-    (tie.spec
-    (λ c. search needs) (λ c. search needs) cast-r returns (λ c. search needs) (λ c. search needs) cast-v held-for-requires sub-owed
-    add-owed cast-owed (λ c. search needs) (λ c. search needs) (λ c. search needs) returns-2 cast-owed-2
+take-turn-spec = tie.close (tie.spec (λ c. search needs) (λ c. search needs) cast-r returns (λ c. search needs) (λ c. search needs) cast-v
+    held-for-requires sub-owed add-owed cast-owed (λ c. search needs) (λ c. search needs) (λ c. search needs) returns-2 cast-owed-2
     (λ c. search needs) (λ c. search needs) (λ c. search needs) returns-3)

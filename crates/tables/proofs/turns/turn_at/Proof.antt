@@ -1,5 +1,4 @@
--- `tables::turns::turn_at` meets its contract.
--- Assumes nothing.
+-- `tables::turns::turn_at` meets its contract. Assumes nothing.
 use borrow.Author.Needs.{needs}
 use mathlib.Core.Path.{_∙_}
 use Rattle.tables.proofs.Turning.{decided-name, decided-owed, decided-ready}
@@ -19,7 +18,4 @@ returns c =
     (p .0 ∙ decided-name (a .c) (a .board .now) (a .rates .now) (a .a) _ d (a .owed .now), p .1 ∙ decided-owed (a .c) (a .board .now) (a .rates .now) (a .a) _ d (a .owed .now))
 
 pub turn-at-spec : {M : Type 1} → statement M
-turn-at-spec =
-    tie.close
-    (tie.spec
-    (λ c κs. search needs) (λ c. search needs) (λ c. search needs) take-turn-requires (λ c. search needs) returns)
+turn-at-spec = tie.close (tie.spec (λ c κs. search needs) (λ c. search needs) (λ c. search needs) take-turn-requires (λ c. search needs) returns)

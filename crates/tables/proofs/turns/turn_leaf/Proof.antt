@@ -1,5 +1,4 @@
--- `tables::turns::turn_leaf` meets its contract.
--- Assumes nothing.
+-- `tables::turns::turn_leaf` meets its contract. Assumes nothing.
 use mathlib.Core.Path.{sym, _∙_}
 use Prim.Native.Nat.{_-_, _≤_}
 use native.Mathlib.Omega.{arith}
@@ -22,12 +21,6 @@ shared-slice-read-x c = omega (arith, c .before .before .before .pre .1 .board)
 loop-holds : tie.Need-loop-holds Inv-loop μ-loop
 loop-holds c = (omega arith, λ j h. absurd (omega arith))
 
-shr-l : tie.Need-shr-l Inv-loop μ-loop
-shr-l c = omega arith
-
-shl-l : tie.Need-shl-l Inv-loop μ-loop
-shl-l c = omega arith
-
 rated-at-requires : tie.Need-rated-at-requires Inv-loop μ-loop
 rated-at-requires c κs =
     let a = c .before .before .before .before .before in
@@ -37,12 +30,6 @@ returns : tie.Need-returns Inv-loop μ-loop
 returns c =
     let a = c .before .before .before .before .before .before .before in
     decides-found (a .args .c) (a .args .board .now) (a .args .rates .now) (a .pre .1) (a .args .a) (a .pre .0) _ (omega (arith, start-le (a .args .a) (c .before .before .before .loop .m))) (sym (c .before .rated-at .ensures) ∙ c .if1 .taken)
-
-add-m : tie.Need-add-m Inv-loop μ-loop
-add-m c = omega arith
-
-loop-less : tie.Need-loop-less Inv-loop μ-loop
-loop-less c = omega arith
 
 loop-again : tie.Need-loop-again Inv-loop μ-loop
 loop-again c =
@@ -58,7 +45,5 @@ returns-2 c =
     decides-none (a .args .c) (a .args .board .now) (a .args .rates .now) (a .pre .1) (a .args .a) (a .pre .0) (λ j h. c .before .loop .inv .1 j (omega arith))
 
 pub turn-leaf-spec : {M : Type 1} → statement M
-turn-leaf-spec =
-    tie.close
-    (tie.spec
-    Inv-loop μ-loop mul-x shared-slice-read-x loop-holds shr-l shl-l rated-at-requires returns add-m loop-less loop-again returns-2)
+turn-leaf-spec = tie.close (tie.spec Inv-loop μ-loop mul-x shared-slice-read-x loop-holds (λ c. omega arith) (λ c. omega arith) rated-at-requires
+    returns (λ c. omega arith) (λ c. omega arith) loop-again returns-2)

@@ -1,5 +1,4 @@
--- `tables::turns::write_round` meets its contract.
--- Assumes nothing.
+-- `tables::turns::write_round` meets its contract. Assumes nothing.
 use borrow.Author.Needs.{needs}
 use mathlib.Core.Path.{ap, _∙_}
 use mathlib.Core.List.{List, _++_}
@@ -16,7 +15,4 @@ returns c =
     ∙ ap (λ (N : List ℕ). N ++ drop (a .args .c) (a .args .output .now)) (round-zeros (a .args .c) (a .args .board .now) (a .args .rates .now) (a .pre .0) _ (c .before .before .before .before .before .before .no-entries .ensures))
 
 pub write-round-spec : {M : Type 1} → statement M
-write-round-spec =
-    tie.close
-    (tie.spec
-    (λ c κs. search needs) (λ c. search needs) (λ c κs. search needs) (λ c. search needs) returns)
+write-round-spec = tie.close (tie.spec (λ c κs. search needs) (λ c. search needs) (λ c κs. search needs) (λ c. search needs) returns)

@@ -1,5 +1,4 @@
--- `tables::turns::write_turns` meets its contract.
--- Assumes nothing.
+-- `tables::turns::write_turns` meets its contract. Assumes nothing.
 use borrow.Author.Needs.{needs}
 use mathlib.Core.Path.{_≡_, refl, ap, _∙_}
 use mathlib.Core.List.{_++_}
@@ -7,7 +6,7 @@ use Prim.Native.Nat.{ℕ, _-_, _≤_, _<_}
 use native.Mathlib.Numerals.{add-one}
 use native.Mathlib.Omega.{arith}
 use lib.ListN.{length, drop, length-set}
-use Rattle.sequences.specs.Board.{leafAt, servedFrom, nextFrom, Position}
+use Rattle.sequences.specs.SlotOrder.{leafAt, servedFrom, nextFrom, Position}
 use Rattle.sequences.specs.Serving.{leavesFrom, afterSlots}
 use Rattle.sequences.specs.declared.Slot.{Slot}
 use Rattle.sequences.proofs.Laws.{after-more-slots, after-slots-valid, leaf-below}
@@ -44,18 +43,6 @@ turn-at-requires c κs =
     let L = c .before .before .before in
     (rw (ap (λ (s : Slot). s .leaf) (c .before .pick .ensures)) (leaf-below (a .args .c) (L .loop .p) (valid L)), omega (arith, L .loop .inv .2, a .pre .2), a .pre .3)
 
-mul-output : tie.Need-mul-output Inv-loop μ-loop
-mul-output c = omega arith
-
-slice-write-output : tie.Need-slice-write-output Inv-loop μ-loop
-slice-write-output c = omega arith
-
-add-i : tie.Need-add-i Inv-loop μ-loop
-add-i c = omega arith
-
-loop-less : tie.Need-loop-less Inv-loop μ-loop
-loop-less c = omega arith
-
 loop-again : tie.Need-loop-again Inv-loop μ-loop
 loop-again c =
     let a = c .before .before .before .before .before .before .before .before .before .before .before .args in
@@ -80,8 +67,5 @@ returns c =
     c .before .loop .inv .4 ∙ ap (λ (k : ℕ). turning.namesAlong (a .c) (a .board .now) (a .rates .now) (a .deficits .now) (leavesFrom (a .c) 1 k) ++ drop k (a .output .now)) e
 
 pub write-turns-spec : {M : Type 1} → statement M
-write-turns-spec =
-    tie.close
-    (tie.spec
-    Inv-loop μ-loop loop-holds pick-requires turn-at-requires mul-output slice-write-output add-i loop-less loop-again
-    (λ c. search needs) (λ c. search needs) returns)
+write-turns-spec = tie.close (tie.spec Inv-loop μ-loop loop-holds pick-requires turn-at-requires (λ c. omega arith) (λ c. omega arith)
+    (λ c. omega arith) (λ c. omega arith) loop-again (λ c. search needs) (λ c. search needs) returns)

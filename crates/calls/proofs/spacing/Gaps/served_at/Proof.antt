@@ -1,5 +1,4 @@
--- `calls::spacing::Gaps::served_at` meets its contract.
--- Assumes nothing.
+-- `calls::spacing::Gaps::served_at` meets its contract. Assumes nothing.
 use borrow.Author.Needs.{needs}
 use Rattle.calls.proofs.spacing.Gaps.served_at.Statement.{statement}
 use Rattle.calls.proofs.spacing.Gaps.served_at.Tie as tie

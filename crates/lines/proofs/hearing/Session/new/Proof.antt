@@ -1,7 +1,7 @@
 -- `lines::hearing::Session::new` meets its contract. Assumes nothing.
 use mathlib.Core.Path.{refl}
 use borrow.Author.Needs.{needs}
-use Rattle.lines.specs.Printing.{blank}
+use Rattle.general.specs.Lists.{blank}
 use Rattle.lines.proofs.hearing.Session.new.Statement.{statement}
 use Rattle.lines.proofs.hearing.Session.new.Tie as tie
 
