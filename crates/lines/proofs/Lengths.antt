@@ -47,9 +47,9 @@ words-total (b ∷ s) =
     first s (λ ws. total (parted (eqb b 32) b ws) ≡ suc (total ws)) (λ w ws. total-parted (eqb b 32) b w ws) ∙ ap suc (words-total s)
 
 module _ (w : List ℕ) where
-  alone-long : 5 < length w → loneWord w ≡ Unknown
+  lone-word-long : 5 < length w → loneWord w ≡ Unknown
   unfolding loneWord
-  alone-long h = rw (same-short w slotWord (λ e. omega arith), same-short w roundWord (λ e. omega arith)) refl
+  lone-word-long h = rw (same-short w slotWord (λ e. omega arith), same-short w roundWord (λ e. omega arith)) refl
 
   one-long : (n : Numeral) → 6 < length w → withOne w n ≡ Unknown
   unfolding withOne
@@ -70,7 +70,7 @@ module _ (w : List ℕ) where
 command-long : (ws : List (List ℕ)) → longest < total ws → command ws ≡ Unknown
 unfolding total command withOne withTwo
 command-long [] h = refl
-command-long (w ∷ []) h = alone-long w (omega arith)
+command-long (w ∷ []) h = lone-word-long w (omega arith)
 command-long (w ∷ x ∷ []) h =
     elim (decLt ticketDigits (length x)) [
       | yes l ↦ rw (numeral-long ticketDigits 18446744073709551615 x l, numeral-long mostDigits 65535 x (omega arith))

@@ -87,7 +87,7 @@ fn number(word: &[u8], most: usize, limit: usize) -> Numeral
 }
 
 // The command of a line of one word.
-fn alone(word: &[u8]) -> Command
+fn lone_word(word: &[u8]) -> Command
     ensures { λ r. ⌜ r ≡ loneWord (now (word .entry)) ⌝ }
 {
     if same(word, b"slot") {
@@ -180,5 +180,5 @@ pub fn parse(line: &[u8]) -> Command
         let next = end + 1;
         return after_one(&line[..end], &line[next..]);
     }
-    alone(line)
+    lone_word(line)
 }

@@ -45,7 +45,7 @@ fn tell_refusal(drive: Drive, refusal: Refusal, out: &mut [u8], at: usize) -> St
 }
 
 // The line of an open; refused, it keeps the old record.
-fn tell_opening(old: Drive, opened: Checked, out: &mut [u8], at: usize) -> Stepped
+fn tell_opened(old: Drive, opened: Checked, out: &mut [u8], at: usize) -> Stepped
     requires { ⌜ at + replyBytes ≤ length (now out) ⌝ }
     ensures { λ r. ⌜ Told (ifClear (opened .answer) (opened .drive) old) (checkLine (opened .answer) []) (now (out .entry)) at r (now (out .exit)) ⌝ }
 {
@@ -61,7 +61,7 @@ fn tell_opening(old: Drive, opened: Checked, out: &mut [u8], at: usize) -> Stepp
 }
 
 // The line of an add or a remove.
-fn tell_ordering(ordered: Ordered, out: &mut [u8], at: usize) -> Stepped
+fn tell_ordered(ordered: Ordered, out: &mut [u8], at: usize) -> Stepped
     requires { ⌜ at + replyBytes ≤ length (now out) ⌝ }
     ensures { λ r. ⌜ Told (ordered .drive) (orderingLine (ordered .answer)) (now (out .entry)) at r (now (out .exit)) ⌝ }
 {
@@ -130,7 +130,7 @@ fn tell_fetching(drive: Drive, answer: Fetching, out: &mut [u8], at: usize) -> S
 }
 
 // The line of a slot.
-fn tell_serving(served: Served, out: &mut [u8], at: usize) -> Stepped
+fn tell_served(served: Served, out: &mut [u8], at: usize) -> Stepped
     requires { ⌜ at + replyBytes ≤ length (now out) ⌝ }
     ensures { λ r. ⌜ Told (served .drive) (servingLine (served .answer)) (now (out .entry)) at r (now (out .exit)) ⌝ }
 {
@@ -205,19 +205,19 @@ pub fn answer(
     match command {
         Command::Open(capacity) => {
             let opened = orders::open(capacity, board, list);
-            tell_opening(drive, opened, out, at)
+            tell_opened(drive, opened, out, at)
         }
         Command::Add(name, weight) => {
             let ordered = orders::add(drive, board, list, name, weight);
-            tell_ordering(ordered, out, at)
+            tell_ordered(ordered, out, at)
         }
         Command::Remove(name) => {
             let ordered = orders::remove(drive, board, list, name);
-            tell_ordering(ordered, out, at)
+            tell_ordered(ordered, out, at)
         }
         Command::Slot => {
             let served = orders::slot(drive, board, list);
-            tell_serving(served, out, at)
+            tell_served(served, out, at)
         }
         Command::Round => tell_round(drive, board, out, at),
         Command::Fetch(ticket) => {

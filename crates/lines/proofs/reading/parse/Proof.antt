@@ -14,7 +14,7 @@ returns : tie.Need-returns
 returns c = c .after-one .ensures ∙ parsed-more (c .before .before .before .before .before .before .args .line .now) (c .before .before .before .before .find .result) (c .before .before .before .before .find .ensures) (omega arith)
 
 returns-2 : tie.Need-returns-2
-returns-2 c = c .alone .ensures ∙ sym (parsed-one (c .before .before .before .before .args .line .now) (omega (arith, c .before .before .find .ensures)))
+returns-2 c = c .lone-word .ensures ∙ sym (parsed-one (c .before .before .before .before .args .line .now) (omega (arith, c .before .before .find .ensures)))
 
 pub parse-spec : {M : Type 1} → statement M
 parse-spec = tie.close (tie.spec (λ c κs. search needs) (λ c. search needs) slice-aggregate-after-one (λ c. search needs) (λ c. search needs)

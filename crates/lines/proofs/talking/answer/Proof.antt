@@ -8,22 +8,22 @@ use Rattle.lines.proofs.talking.answer.Tie as tie
 returns : tie.Need-returns
 unfolding driveAfter replyLine boardAfter listAfter
 returns c = let p = c .before .before .before .before .before .before .before .before .«open» .ensures in
-    rw (c .before .before .before .before .before .before .before .before .before .before .before .before .command .given .1) (rw (p .0) at (c .before .before .tell-opening .ensures), p .2, p .3)
+    rw (c .before .before .before .before .before .before .before .before .before .before .before .before .command .given .1) (rw (p .0) at (c .before .before .tell-opened .ensures), p .2, p .3)
 
 returns-2 : tie.Need-returns-2
 unfolding driveAfter replyLine boardAfter listAfter
 returns-2 c = let p = c .before .before .before .before .before .before .before .before .add .ensures in
-    rw (c .before .before .before .before .before .before .before .before .before .before .before .before .command2 .given .1) (rw (p .0) at (c .before .before .tell-ordering .ensures), p .2, p .3)
+    rw (c .before .before .before .before .before .before .before .before .before .before .before .before .command2 .given .1) (rw (p .0) at (c .before .before .tell-ordered .ensures), p .2, p .3)
 
 returns-3 : tie.Need-returns-3
 unfolding driveAfter replyLine boardAfter listAfter
 returns-3 c = let p = c .before .before .before .before .before .before .before .before .remove .ensures in
-    rw (c .before .before .before .before .before .before .before .before .before .before .before .before .command3 .given .1) (rw (p .0) at (c .before .before .tell-ordering2 .ensures), p .2, p .3)
+    rw (c .before .before .before .before .before .before .before .before .before .before .before .before .command3 .given .1) (rw (p .0) at (c .before .before .tell-ordered2 .ensures), p .2, p .3)
 
 returns-4 : tie.Need-returns-4
 unfolding driveAfter replyLine boardAfter listAfter
 returns-4 c = let p = c .before .before .before .before .before .before .before .before .slot .ensures in
-    rw (c .before .before .before .before .before .before .before .before .before .before .before .enum-told .given .1) (rw (p .0) at (c .before .before .tell-serving .ensures), p .2, p .3)
+    rw (c .before .before .before .before .before .before .before .before .before .before .before .enum-told .given .1) (rw (p .0) at (c .before .before .tell-served .ensures), p .2, p .3)
 
 returns-5 : tie.Need-returns-5
 unfolding driveAfter replyLine boardAfter listAfter

@@ -1,9 +1,9 @@
--- `lines::talking::tell_serving` meets its contract. Assumes nothing.
+-- `lines::talking::tell_served` meets its contract. Assumes nothing.
 use native.Mathlib.Omega.{arith}
 use borrow.Author.Needs.{needs}
 use Rattle.lines.proofs.Written.{told}
-use Rattle.lines.proofs.talking.tell_serving.Statement.{statement}
-use Rattle.lines.proofs.talking.tell_serving.Tie as tie
+use Rattle.lines.proofs.talking.tell_served.Statement.{statement}
+use Rattle.lines.proofs.talking.tell_served.Tie as tie
 
 returns : tie.Need-returns
 returns c = rw (c .before .before .before .before .before .before .answer .given .1) (told _ _ _ _ _ _ _ _ (c .before .before .put-line .ensures) (omega arith))
@@ -11,6 +11,6 @@ returns c = rw (c .before .before .before .before .before .before .answer .given
 returns-2 : tie.Need-returns-2
 returns-2 c = rw (c .before .before .before .before .before .answer2 .given .1) (c .before .before .tell-refusal .ensures)
 
-pub tell-serving-spec : {M : Type 1} → statement M
-tell-serving-spec = tie.close (tie.spec (λ c. search needs) (λ c. search needs) (λ c κs. search needs) (λ c. search needs) (λ c κs. search needs)
+pub tell-served-spec : {M : Type 1} → statement M
+tell-served-spec = tie.close (tie.spec (λ c. search needs) (λ c. search needs) (λ c κs. search needs) (λ c. search needs) (λ c κs. search needs)
     (λ c. search needs) returns (λ c. search needs) returns-2)

@@ -1,9 +1,9 @@
--- `lines::talking::tell_opening` meets its contract. Assumes nothing.
+-- `lines::talking::tell_opened` meets its contract. Assumes nothing.
 use native.Mathlib.Omega.{arith}
 use borrow.Author.Needs.{needs}
 use Rattle.lines.proofs.Written.{told}
-use Rattle.lines.proofs.talking.tell_opening.Statement.{statement}
-use Rattle.lines.proofs.talking.tell_opening.Tie as tie
+use Rattle.lines.proofs.talking.tell_opened.Statement.{statement}
+use Rattle.lines.proofs.talking.tell_opened.Tie as tie
 
 returns : tie.Need-returns
 returns c = rw (c .before .before .before .before .enum-told .given .1) (told _ _ _ _ _ _ _ _ (c .before .before .put-alone .ensures) (omega arith))
@@ -11,6 +11,6 @@ returns c = rw (c .before .before .before .before .enum-told .given .1) (told _ 
 returns-2 : tie.Need-returns-2
 returns-2 c = rw (c .before .before .before .before .before .answer .given .1) (c .before .before .tell-refusal .ensures)
 
-pub tell-opening-spec : {M : Type 1} → statement M
-tell-opening-spec = tie.close (tie.spec (λ c. search needs) (λ c κs. search needs) (λ c. search needs) (λ c κs. search needs) (λ c. search needs)
+pub tell-opened-spec : {M : Type 1} → statement M
+tell-opened-spec = tie.close (tie.spec (λ c. search needs) (λ c κs. search needs) (λ c. search needs) (λ c κs. search needs) (λ c. search needs)
     returns (λ c. search needs) returns-2)

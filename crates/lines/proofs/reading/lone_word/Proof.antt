@@ -1,9 +1,9 @@
--- `lines::reading::alone` meets its contract. Assumes nothing.
+-- `lines::reading::lone_word` meets its contract. Assumes nothing.
 use mathlib.Core.Path.{sym, _∙_}
 use borrow.Author.Needs.{needs}
 use Rattle.lines.specs.Grammar.{loneWord}
-use Rattle.lines.proofs.reading.alone.Statement.{statement}
-use Rattle.lines.proofs.reading.alone.Tie as tie
+use Rattle.lines.proofs.reading.lone_word.Statement.{statement}
+use Rattle.lines.proofs.reading.lone_word.Tie as tie
 
 returns : tie.Need-returns
 unfolding loneWord
@@ -17,5 +17,5 @@ returns-3 : tie.Need-returns-3
 unfolding loneWord
 returns-3 c = simp (sym (c .before .before .before .before .same .ensures) ∙ c .before .before .before .if1 .left, sym (c .before .same2 .ensures) ∙ c .if2 .left)
 
-pub alone-spec : {M : Type 1} → statement M
-alone-spec = tie.close (tie.spec (λ c. search needs) (λ c κs. search needs) returns (λ c. search needs) (λ c κs. search needs) returns-2 returns-3)
+pub lone-word-spec : {M : Type 1} → statement M
+lone-word-spec = tie.close (tie.spec (λ c. search needs) (λ c κs. search needs) returns (λ c. search needs) (λ c κs. search needs) returns-2 returns-3)

@@ -1,9 +1,9 @@
--- `lines::talking::tell_ordering` meets its contract. Assumes nothing.
+-- `lines::talking::tell_ordered` meets its contract. Assumes nothing.
 use native.Mathlib.Omega.{arith}
 use borrow.Author.Needs.{needs}
 use Rattle.lines.proofs.Written.{told}
-use Rattle.lines.proofs.talking.tell_ordering.Statement.{statement}
-use Rattle.lines.proofs.talking.tell_ordering.Tie as tie
+use Rattle.lines.proofs.talking.tell_ordered.Statement.{statement}
+use Rattle.lines.proofs.talking.tell_ordered.Tie as tie
 
 returns : tie.Need-returns
 returns c = rw (c .before .before .before .before .before .answer .given .1) (told _ _ _ _ _ _ _ _ (c .before .before .put-value .ensures) (omega arith))
@@ -20,8 +20,8 @@ returns-4 c = rw (c .before .before .before .before .enum-told .given .1) (told 
 returns-5 : tie.Need-returns-5
 returns-5 c = rw (c .before .before .before .before .before .answer4 .given .1) (c .before .before .tell-refusal .ensures)
 
-pub tell-ordering-spec : {M : Type 1} → statement M
-tell-ordering-spec = tie.close (tie.spec (λ c. search needs) (λ c. search needs) (λ c κs. search needs) (λ c. search needs) (λ c. search needs)
+pub tell-ordered-spec : {M : Type 1} → statement M
+tell-ordered-spec = tie.close (tie.spec (λ c. search needs) (λ c. search needs) (λ c κs. search needs) (λ c. search needs) (λ c. search needs)
     (λ c κs. search needs) (λ c. search needs) (λ c κs. search needs) (λ c. search needs) (λ c κs. search needs) (λ c. search needs)
     (λ c κs. search needs) (λ c. search needs) returns (λ c. search needs) returns-2 (λ c. search needs) returns-3 (λ c. search needs) returns-4
     (λ c. search needs) returns-5)
