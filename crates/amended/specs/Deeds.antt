@@ -177,6 +177,7 @@ madeBy (way.Refused r) o = []
 madeBy way.Wait o = []
 madeBy way.Now o = actOf o
 
+-- A slot that is refused stands for nothing, any other for the changes that it carries out before and itself.
 abbrev pub slotBy : Check → List Act → List Act
 slotBy (Refused r) before = []
 slotBy Clear before = before ++ (Slot ∷ [])

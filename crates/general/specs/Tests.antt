@@ -1,4 +1,4 @@
--- Tests as numbers, and a test of many numbers. Assumes nothing.
+-- Tests as numbers, a test of many numbers, and whether two lists are the same. Assumes nothing.
 use mathlib.Core.Bool.{Bool, true, false, _&&_}
 use mathlib.Core.List.{List, [], _∷_}
 use Prim.Native.Nat.{ℕ, zero, suc, _+_}

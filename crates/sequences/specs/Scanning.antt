@@ -9,9 +9,9 @@ use Rattle.sequences.specs.Sequences.{wss, tss}
 use Rattle.sequences.specs.SlotOrder.{digits, bit, start}
 use Rattle.sequences.specs.Serving.{countList}
 
--- How often v stands in a list of terms.
+-- How often v stands in a list, of terms or of names.
 abbrev pub occurrences : ℕ → List ℕ → ℕ
-occurrences v terms = countList (λ (x : ℕ). eqb x v) terms
+occurrences v list = countList (λ (x : ℕ). eqb x v) list
 
 -- The leaves of terms scanned one after the other. The term v selects column j = k - v; a clear column is passed over. A set one serves entry i of the
 -- time-slot sequence of order j, from the start of tree j, where v has stood i times among the terms scanned before (`done`, the last one first).
