@@ -13,7 +13,7 @@ INSTALL = install
 
 version := $(shell sed -n 's/^.define MANDROZSI_VERSION "\(.*\)"/\1/p' bindings/c/mandrozsi.h)
 archive = target/staticlib/libexports.a
-console = target/bin/console
+console = crates/console/out/console
 
 header_to = $(DESTDIR)$(includedir)/mandrozsi.h
 archive_to = $(DESTDIR)$(libdir)/libmandrozsi.a
@@ -28,13 +28,13 @@ console_files = $(console_to) $(session_to)
 built = @test -f $(1) || { echo "make: there is no $(1): '$(2)' makes it" >&2; exit 1; }
 
 all:
-	rt staticlib exports
-	rt check console
+	.ci/archive
+	cd crates/console && rt run </dev/null
 
 install: install-library install-console
 
 install-library:
-	$(call built,$(archive),rt staticlib exports)
+	$(call built,$(archive),.ci/archive)
 	$(INSTALL) -d $(dir $(library_files))
 	$(INSTALL) -m 644 bindings/c/mandrozsi.h $(header_to)
 	$(INSTALL) -m 644 $(archive) $(archive_to)
@@ -43,7 +43,7 @@ install-library:
 	$(INSTALL) -m 644 docs/man/mandrozsi.3 $(calls_to)
 
 install-console:
-	$(call built,$(console),rt check console)
+	$(call built,$(console),rt run in crates/console)
 	$(INSTALL) -d $(dir $(console_files))
 	$(INSTALL) -m 755 $(console) $(console_to)
 	$(INSTALL) -m 644 docs/man/mandrozsi.1 $(session_to)

@@ -1,5 +1,5 @@
 //! Finds the static library and links it. `MANDROZSI_ARCHIVE` names it, and it is an error where the one named is not there; without that it is
-//! target/staticlib/libexports.a of the repository, which `rt staticlib exports` writes and which is for x86-64 (on AArch64 `bindings/native` makes
+//! target/staticlib/libexports.a of the repository, which `.ci/archive` writes there and which is for x86-64 (on AArch64 `bindings/native` makes
 //! one that can be named). Where there is none, the crate is still built, with no function behind its declarations, and the configuration `linked` is
 //! not set. The tests then find functions of the declarations' names in tests/boundary/served.rs, which hand each call to the process that
 //! `MANDROZSI_SERVE` names (the configuration `served`); without one either, those that need the library are ignored.
@@ -29,9 +29,9 @@ fn archive() -> Result<PathBuf, String> {
     let shown = archive.display();
     match (archive.is_file(), named) {
         (true, _) => Ok(archive),
-        (false, None) => Err(format!("{shown} is not there (rt staticlib exports writes it)")),
+        (false, None) => Err(format!("{shown} is not there (.ci/archive writes it)")),
         (false, Some(_)) => stop(&format!(
-            "MANDROZSI_ARCHIVE names {shown:?}, and there is no such file. Name the archive that `rt staticlib exports` writes by its whole path, or \
+            "MANDROZSI_ARCHIVE names {shown:?}, and there is no such file. Name the archive that `.ci/archive` writes by its whole path, or \
              leave the variable unset."
         )),
     }

@@ -11,7 +11,7 @@ use borrow.Author.Tests.{ne_eqb, eqb-true}
 use Rattle.general.proofs.Laws.{by_bool}
 use Rattle.pieces.specs.Board.{weight}
 use Rattle.calls.specs.declared.Drive.{Drive}
-use Rattle.calls.specs.declared.Check.TheVariants.{Clear, Refused}
+use Rattle.calls.specs.declared.Check.TheVariants.{Clear}
 use Rattle.calls.specs.Records.{drive_at}
 use Rattle.calls.specs.Results.{idle_board}
 use Rattle.calls.proofs.Laws.{is_clear_lem, open_clear, open_sized, slot_parts, either_length, slot_first}

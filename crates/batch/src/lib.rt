@@ -1,5 +1,7 @@
 // A table of changes for two drives on one board: each entry is carried out as the single call does it, and its answer is written beside it. The loop over a
 // table stands where it is exported.
+#![tactic(auto)]
+
 ghost use Rattle.std.specs.Prelude.{◌≡◌};
 ghost use Rattle.orders.specs.Answers.{ordering_answer};
 ghost use Rattle.batch.specs.Entries.{ordered, ordered_board, ordered_list, answering, noted};
@@ -10,7 +12,7 @@ use orders::{Ordered, Ordering};
 
 // An entry: what is asked for, and the place for its answer, a number and a value. The value has room for a ticket.
 #[repr(C)]
-#[derive(Drop)]
+#[derive(Clone, Copy)]
 pub struct Entry {
     pub kind: u16,
     pub name: u16,
@@ -27,7 +29,7 @@ impl Entry {
 }
 
 // What an entry leaves of the record and of itself.
-#[derive(Drop)]
+#[derive(Clone, Copy)]
 pub struct Carried {
     pub drive: Drive,
     pub entry: Entry,

@@ -99,13 +99,17 @@ unfolding zero_or
 zero_in [] = refl
 zero_in (n ∷ ns) = rw (zero_in ns) (or-true (eqb 0 n))
 
+-- one refusal more
+within_more : (b : Bool) (r : Refusal) (ns : List ℕ) (k : Check) → Within ns k → Within (number_of r ∷ ns) (refuse_if b r k)
+unfolding zero_or
+within_more true r ns k h = rw (eq-eqb (number_of r) (number_of r) refl)
+within_more false r ns k h = rw h (or-true (eqb (number_by k) (number_of r)))
+
 -- the first of a list of refusals
 pub first_within : (rs : List Refusal) (a : Asked) → Within (numbers rs) (first_of rs a)
 unfolding first_of zero_or
 first_within [] a = refl
-first_within (r ∷ rs) a = by_bool (applies r a)
-    (λ t. rw (t, eq-eqb (number_of r) (number_of r) refl))
-    (λ f. rw (f, first_within rs a) (or-true (eqb (number_by (first_of rs a)) (number_of r))))
+first_within (r ∷ rs) a = within_more (applies r a) r (numbers rs) (first_of rs a) (first_within rs a)
 
 pub first_among : (rs : List Refusal) (a : Asked) → among (number_by (first_of rs a)) rs ≡ true
 first_among rs a = within_among rs (first_of rs a) (first_within rs a)

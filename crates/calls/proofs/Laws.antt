@@ -91,7 +91,8 @@ first_lowest n (s ∷ rs) a r o e =
     by_bool (applies s a)
     (λ t.
     let g : s ≡ r = let h = rw t at e in cc in
-    rw (← g) (t, ((λ u. le_refl (number_of s)), above (number_of s) (number_of s) rs a (le_refl (number_of s)) f.1)))
+    subst (λ (x : Refusal). (applies x a ≡ true) × Lowest (number_of x) (s ∷ rs) a) g
+    (t, ((λ u. le_refl (number_of s)), above (number_of s) (number_of s) rs a (le_refl (number_of s)) f.1)))
     (λ t.
     let g = first_lowest (number_of s) rs a r f.1 (rw t at e) in
     (g.0, ((λ u. let z : ◌≡◌ {A = ℕ} 0 1 = cc in absurd (omega arith)), g.1)))

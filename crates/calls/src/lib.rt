@@ -1,4 +1,6 @@
 // The calls on one drive's slot board: open, add, remove, slot, round, report, the fresh layout, and the refusals of document 01.
+#![tactic(auto)]
+
 ghost use Rattle.std.specs.Prelude.{◌≡◌, ◌≤◌, length};
 ghost use Rattle.calls.specs.Records.{drive_at, round_after, moved_to};
 ghost use Rattle.calls.specs.Refusals as refusals;
@@ -14,7 +16,7 @@ pub mod spacing;
 
 // The drive record: the capacity C, the position p, and the number of the round that the slot at p belongs to. Its type owns the limits and the calls.
 #[repr(C)]
-#[derive(Drop)]
+#[derive(Clone, Copy)]
 pub struct Drive {
     pub capacity: u16,
     pub position: u16,
@@ -22,7 +24,7 @@ pub struct Drive {
 }
 
 // The refusals, by the names of document 01's table, in the order of its numbers.
-#[derive(Drop)]
+#[derive(Clone, Copy)]
 pub enum Refusal {
     Capacity,
     Short,
@@ -61,34 +63,34 @@ impl Refusal {
 }
 
 // What the checks before a call find, and the answer of a call that returns no value: open, round, the fresh layout, read.
-#[derive(Drop)]
+#[derive(Clone, Copy)]
 pub enum Check {
     Clear,
     Refused(Refusal),
 }
 
-#[derive(Drop)]
+#[derive(Clone, Copy)]
 pub struct Checked {
     pub drive: Drive,
     pub answer: Check,
 }
 
 // The answer of add and of remove: the idle leaves left. ROOM has its own case, which says the idle leaves there are, and is never Refused(Room).
-#[derive(Drop)]
+#[derive(Clone, Copy)]
 pub enum Change {
     Done(u16),
     Room(u16),
     Refused(Refusal),
 }
 
-#[derive(Drop)]
+#[derive(Clone, Copy)]
 pub struct Changed {
     pub drive: Drive,
     pub answer: Change,
 }
 
 // The answer of slot.
-#[derive(Drop)]
+#[derive(Clone, Copy)]
 pub enum Serving {
     Slot {
         name: u16,
@@ -99,14 +101,14 @@ pub enum Serving {
     Refused(Refusal),
 }
 
-#[derive(Drop)]
+#[derive(Clone, Copy)]
 pub struct Served {
     pub drive: Drive,
     pub answer: Serving,
 }
 
 // The answer of report.
-#[derive(Drop)]
+#[derive(Clone, Copy)]
 pub enum Report {
     Stream {
         weight: u16,
@@ -116,7 +118,7 @@ pub enum Report {
     Refused(Refusal),
 }
 
-#[derive(Drop)]
+#[derive(Clone, Copy)]
 pub struct Reported {
     pub drive: Drive,
     pub answer: Report,

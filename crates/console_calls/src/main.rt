@@ -1,6 +1,8 @@
 // Every command, and every refusal that the console can give; rounds of 4,095.
-fn main() {
+#![tactic(auto)]
+
+fn main(rt: HostRuntime) {
     let mut board = [0; 4095];
     let mut list = [0u64; 259];
-    console_loop::serve(&mut board, &mut list);
+    console_loop::serve(&rt, &mut board, &mut list);
 }

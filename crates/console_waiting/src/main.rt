@@ -1,6 +1,8 @@
 // Changes while a round runs: orders that wait, their answers fetched, 64 places, lines that are no fetch.
-fn main() {
+#![tactic(auto)]
+
+fn main(rt: HostRuntime) {
     let mut board = [0; 4095];
     let mut list = [0u64; 259];
-    console_loop::serve(&mut board, &mut list);
+    console_loop::serve(&rt, &mut board, &mut list);
 }

@@ -1,5 +1,5 @@
 -- What holds of every record and board that calls from an opened board lead to: the board is good, and what is held is on it. Assumes nothing.
-use mathlib.Core.Path.{◌≡◌, refl, sym, ◌∙◌}
+use mathlib.Core.Path.{◌≡◌, refl, sym, ◌∙◌, ap}
 use mathlib.Core.Bool.{Bool, true, false, cond}
 use mathlib.Core.List.{List, [], ◌∷◌, ◌++◌}
 use Prim.Native.Nat.{ℕ, zero, suc, ◌+◌, ◌≤◌, ◌<◌}
@@ -89,7 +89,7 @@ module _ (s : State) (hs : List Stream) (is : Sound s hs) where
         fine = placed_good C B x w m;
         idle = omega arith;
         names = λ y n. elim (ℕ_discrete y x) [
-          | yes r ↦ rw (r, eq-eqb x x refl) (let a = is.names x m.named in let b = m.absent in let c = placed_weight C B x w m in omega arith)
+          | yes r ↦ let e : held_of y hs ≡ held_of x hs = ap (λ (z : ℕ). held_of z hs) r in rw (r, eq-eqb x x refl) (let a = is.names x m.named in let b = m.absent in let c = placed_weight C B x w m in omega arith)
           | no r ↦ rw (ne_eqb x y (λ q. r (sym q))) (let a = is.names y n in let c = placed_others C B x w m y n r in omega arith)
         ];
         nameless = rw (ne_eqb x 0 m.named) (let z = is.nameless in omega arith);

@@ -1,1 +1,2 @@
 // No function: the demands are theorems over the calls, in specs/ and proofs/.
+#![tactic(auto)]

@@ -11,16 +11,18 @@
 //     & open C, & fetch T, & read of what was saved
 //
 // Any other line is a remark.
+#![tactic(auto)]
+
 use calls::Drive;
-use libc::STDIN_FILENO;
+use std::io;
 use telling::answers::{tell_checked, tell_reported, tell_served};
-use telling::reading::{letter_at, line_end, number_at, record_of};
+use telling::reading::{letter_at, line_end, number_at, read_text, record_of, text_room};
 use telling::stores::{put, within, within_list};
 use telling::{end_line, say, say_entries, say_record};
 use telling_orders::{tell_fetching, tell_ordered, tell_saved};
 
 // The records, that of the drive that acts first; how many entries of the board's store and how many numbers of the list's are lent.
-#[derive(Drop)]
+#[derive(Clone, Copy)]
 struct State {
     own: Drive,
     other: Drive,
@@ -32,16 +34,16 @@ fn names() -> [u16; 9] {
     [0u16; 9]
 }
 
-fn rounds(own: Drive, other: Drive, board: &[u16]) -> Drive {
+fn rounds(rt: &impl Print, own: Drive, other: Drive, board: &[u16]) -> io::Result<Drive> {
     let mut output = names();
-    let after = tell_checked(drives::round(own, other, board, &mut output));
-    say_entries(&output, 0, 9);
-    after
+    let after = tell_checked(rt, drives::round(own, other, board, &mut output))?;
+    say_entries(rt, &output, 0, 9)?;
+    Ok(after)
 }
 
-fn fetches(own: Drive, list: &mut [u64], ticket: u64) -> Drive {
-    tell_fetching(waiting::fetch(list, ticket));
-    own
+fn fetches(rt: &impl Print, own: Drive, list: &mut [u64], ticket: u64) -> io::Result<Drive> {
+    tell_fetching(rt, waiting::fetch(list, ticket))?;
+    Ok(own)
 }
 
 // The third letter of an act, which tells it; a remark has none.
@@ -53,43 +55,54 @@ fn letter_of(line: &[u8]) -> u8 {
 }
 
 // Makes the call of the own drive that a line stands for, if it stands for one.
-fn call(s: State, line: &[u8], board: &mut [u16], list: &mut [u64], sheet: &mut [u8]) -> Drive {
-    let own = s.own;
-    let other = s.other;
-    let n = number_at(line, 0);
-    match letter_of(line) {
-        b'l' => record_of(line),
-        b'd' => tell_ordered(drives::add(own, other, board, list, n, number_at(line, 1))),
-        b'm' => tell_ordered(drives::remove(own, other, board, list, n)),
-        b'o' => tell_served(drives::slot(own, other, board, list)),
-        b'u' => rounds(own, other, board),
-        b'p' => tell_reported(drives::report(own, other, board, n)),
-        b'v' => tell_saved(drives::save(own, other, board, sheet)),
-        b'e' => tell_checked(orders::open(n, board, list)),
-        b'a' => tell_checked(orders::read(sheet, board, list)),
-        b't' => fetches(own, list, n as u64),
-        _ => own,
-    }
-}
-
-// Makes the call of a line, on what is lent. Open and read give both drives their record.
-fn carry_out(
+fn call(
+    rt: &impl Print,
     s: State,
     line: &[u8],
     board: &mut [u16],
     list: &mut [u64],
     sheet: &mut [u8],
-) -> State {
+) -> io::Result<Drive> {
+    let own = s.own;
+    let other = s.other;
+    let n = number_at(line, 0);
+    match letter_of(line) {
+        b'l' => Ok(record_of(line)),
+        b'd' => tell_ordered(
+            rt,
+            drives::add(own, other, board, list, n, number_at(line, 1)),
+        ),
+        b'm' => tell_ordered(rt, drives::remove(own, other, board, list, n)),
+        b'o' => tell_served(rt, drives::slot(own, other, board, list)),
+        b'u' => rounds(rt, own, other, board),
+        b'p' => tell_reported(rt, drives::report(own, other, board, n)),
+        b'v' => tell_saved(rt, drives::save(own, other, board, sheet)),
+        b'e' => tell_checked(rt, orders::open(n, board, list)),
+        b'a' => tell_checked(rt, orders::read(sheet, board, list)),
+        b't' => fetches(rt, own, list, n as u64),
+        _ => Ok(own),
+    }
+}
+
+// Makes the call of a line, on what is lent. Open and read give both drives their record.
+fn carry_out(
+    rt: &impl Print,
+    s: State,
+    line: &[u8],
+    board: &mut [u16],
+    list: &mut [u64],
+    sheet: &mut [u8],
+) -> io::Result<State> {
     let m = within(s.board, board);
     let n = within_list(s.list, list);
-    let own = call(s, line, &mut board[..m], &mut list[..n], sheet);
+    let own = call(rt, s, line, &mut board[..m], &mut list[..n], sheet)?;
     let other = other_after(letter_of(line), own, s.other);
-    State {
+    Ok(State {
         own,
         other,
         board: m,
         list: n,
-    }
+    })
 }
 
 fn other_after(letter: u8, own: Drive, other: Drive) -> Drive {
@@ -115,7 +128,7 @@ fn turned(s: State, line: &[u8]) -> State {
 }
 
 // Carries out a line that makes no call.
-fn arrange(mut s: State, line: &[u8], board: &mut [u16]) -> State {
+fn arrange(rt: &impl Print, mut s: State, line: &[u8], board: &mut [u16]) -> io::Result<State> {
     let n = number_at(line, 0) as usize;
     match letter_of(line) {
         b'n' => {
@@ -126,31 +139,48 @@ fn arrange(mut s: State, line: &[u8], board: &mut [u16]) -> State {
         }
         b'x' => put(board, n, number_at(line, 1)),
         b'w' => {
-            say(b":");
-            say_entries(board, 0, 9);
+            say(rt, b":")?;
+            say_entries(rt, board, 0, 9)?;
         }
         _ => {}
     }
-    s
+    Ok(s)
 }
 
 // Makes the call of a line and says the records.
-fn act(s: State, line: &[u8], board: &mut [u16], list: &mut [u64], sheet: &mut [u8]) -> State {
-    say(b":");
-    let after = turned(carry_out(turned(s, line), line, board, list, sheet), line);
+fn act(
+    rt: &impl Print,
+    s: State,
+    line: &[u8],
+    board: &mut [u16],
+    list: &mut [u64],
+    sheet: &mut [u8],
+) -> io::Result<State> {
+    say(rt, b":")?;
+    let after = turned(
+        carry_out(rt, turned(s, line), line, board, list, sheet)?,
+        line,
+    );
     let first = after.own;
     let second = after.other;
-    say_record(first);
-    say_record(second);
-    after
+    say_record(rt, first)?;
+    say_record(rt, second)?;
+    Ok(after)
 }
 
 // Carries out a line.
-fn next(s: State, line: &[u8], board: &mut [u16], list: &mut [u64], sheet: &mut [u8]) -> State {
-    say(line);
+fn next(
+    rt: &impl Print,
+    s: State,
+    line: &[u8],
+    board: &mut [u16],
+    list: &mut [u64],
+    sheet: &mut [u8],
+) -> io::Result<State> {
+    say(rt, line)?;
     match letter_of(line) {
-        b'n' | b'i' | b'x' | b'w' | b'-' => arrange(s, line, board),
-        _ => act(s, line, board, list, sheet),
+        b'n' | b'i' | b'x' | b'w' | b'-' => arrange(rt, s, line, board),
+        _ => act(rt, s, line, board, list, sheet),
     }
 }
 
@@ -164,15 +194,22 @@ fn unopened() -> State {
     }
 }
 
-fn play(text: &[u8], board: &mut [u16], list: &mut [u64], sheet: &mut [u8]) {
+fn play(
+    rt: &impl Print,
+    text: &[u8],
+    board: &mut [u16],
+    list: &mut [u64],
+    sheet: &mut [u8],
+) -> io::Result<()> {
     let mut s = unopened();
     let mut at: usize = 0;
     while at < text.len() {
         let end = line_end(text, at);
-        s = next(s, &text[at..end], board, list, sheet);
-        end_line();
+        s = next(rt, s, &text[at..end], board, list, sheet)?;
+        end_line(rt)?;
         at = end + 1;
     }
+    Ok(())
 }
 
 fn numbers() -> [u64; 260] {
@@ -183,11 +220,11 @@ fn sheet_bytes() -> [u8; 512] {
     [0u8; 512]
 }
 
-fn main() {
-    let mut text = io::large_buffer();
-    let n = io::read_full(STDIN_FILENO, &mut text);
+fn main(rt: HostRuntime) -> io::Result<()> {
+    let mut text = text_room();
+    let n = read_text(&rt, &mut text)?;
     let mut board = names();
     let mut list = numbers();
     let mut sheet = sheet_bytes();
-    play(&text[..n], &mut board, &mut list, &mut sheet);
+    play(&rt, &text[..n], &mut board, &mut list, &mut sheet)
 }

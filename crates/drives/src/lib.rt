@@ -1,6 +1,8 @@
 // The calls for two drives on one board with one waiting list: add, remove, slot, round, report, save of each form of sheet, the fresh layout. `own`
 // is the record of the drive that the call is for, and comes back; `other` is the other drive's, and is only looked at. Open, read and fetch are
 // those of one drive: their record is for both.
+#![tactic(auto)]
+
 ghost use Rattle.std.specs.Prelude.{◌≡◌, ◌≤◌, ◌<◌, max};
 ghost use Rattle.orders.specs.Results.{add_order, remove_order};
 ghost use Rattle.drives.specs.Checks as checks;

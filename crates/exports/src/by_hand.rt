@@ -1,4 +1,4 @@
-// The functions that C and Rust link whose proofs walk the code by hand, since they are lent structs: a table of changes, of which the loop alone stands here, and
+// The functions that C and Rust link that are lent structs: a table of changes, of which the loop alone stands here, and
 // the slot on a record where that lies; each for two drives, and with the tables of over-allocated streams.
 ghost use Rattle.shares.specs.States.{lent};
 ghost use Rattle.batch.specs.Promises as promises;

@@ -1,6 +1,9 @@
 // The functions that C and Rust link: every call on a slot board with its waiting list, and save and read; in `pair` those for two drives on one board, in
 // `sharing` those with the tables of over-allocated streams, in `by_hand` those of both that are lent structs, in `engine` the tree walk, in `listing` the sheets that
 // list pieces, in `neighbour` a group table. A slice is a pointer and then a length.
+// A library exports nothing to C: each function is exported under its name by `exports_c`, whose body is the call.
+#![tactic(auto)]
+
 ghost use Rattle.std.specs.Prelude.{◌≡◌, length};
 ghost use Rattle.calls.specs.Results as results;
 ghost use Rattle.sheets.specs.Results as sheet_results;

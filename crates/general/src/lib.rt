@@ -1,1 +1,2 @@
 // No function: definitions and laws of tests, equations and lists that no crate above owns.
+#![tactic(auto)]

@@ -1,4 +1,6 @@
 // Reads a neighbour's group table (request No. 11; source document 000, section III): its round by its own rule, and its streams as adds to an opened board.
+#![tactic(auto)]
+
 ghost use Rattle.std.specs.Prelude.{◌≡◌, ◌||◌, ◌++◌, suc, ◌+◌, ◌*◌, ◌^◌, ◌<◌, ◌≤◌, eqb, ltb, length, get_or, replicate, drop};
 ghost use Rattle.sequences.specs.Sequences.{rb};
 ghost use Rattle.pieces.specs.Fresh as fresh;
@@ -11,7 +13,7 @@ ghost use Rattle.groups.specs.Promises as promises;
 use calls::{Drive, Refusal};
 
 // What the checks of an import find, and its answer, which has no value: the capacity is no power of two; the table has a fault; a refusal.
-#[derive(Drop)]
+#[derive(Clone, Copy)]
 pub enum Importing {
     Clear,
     Power,
@@ -19,7 +21,7 @@ pub enum Importing {
     Refused(Refusal),
 }
 
-#[derive(Drop)]
+#[derive(Clone, Copy)]
 pub struct Imported {
     pub drive: Drive,
     pub answer: Importing,

@@ -13,7 +13,7 @@ use calls::Drive;
 const KEPT: usize = 27;
 
 // The drive record, and what is kept of the line that is being heard.
-#[derive(Drop)]
+#[derive(Clone, Copy)]
 pub struct Session {
     pub drive: Drive,
     pub start: [u8; KEPT],
@@ -21,14 +21,14 @@ pub struct Session {
 }
 
 // A session, and the place in the lent bytes after what was said.
-#[derive(Drop)]
+#[derive(Clone, Copy)]
 pub struct Heard {
     pub session: Session,
     pub to: usize,
 }
 
 // The same, and how many bytes of the input were heard.
-#[derive(Drop)]
+#[derive(Clone, Copy)]
 pub struct Fed {
     pub session: Session,
     pub used: usize,

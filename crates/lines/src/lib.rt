@@ -1,4 +1,6 @@
 // The console's language: a line in, a command; an answer out, a line.
+#![tactic(auto)]
+
 mod hearing;
 mod reading;
 mod talking;
@@ -9,7 +11,7 @@ pub use reading::parse;
 pub use talking::{ROOM, Stepped, step};
 
 // What a line asks for.
-#[derive(Drop)]
+#[derive(Clone, Copy)]
 pub enum Command {
     Open(u16),
     Add(u16, u16),

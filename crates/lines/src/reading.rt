@@ -6,7 +6,7 @@ ghost use Rattle.lines.specs.Grammar.{first_place, words, numeral, short_number 
 use crate::Command;
 
 // A word read as a number.
-#[derive(Drop)]
+#[derive(Clone, Copy)]
 pub enum Numeral {
     Value(usize),
     Nothing,

@@ -14,7 +14,7 @@ use orders::{Ordered, Ordering};
 use waiting::Fetching;
 
 // The record after a command, and the place in the lent bytes after its reply.
-#[derive(Drop)]
+#[derive(Clone, Copy)]
 pub struct Stepped {
     pub drive: Drive,
     pub to: usize,

@@ -1,11 +1,13 @@
 // A number below 4,096 for each name, in little room: a board has less than 4,096 leaves, and so less names, of the 65,536 that there are. Names with the same
 // twelve low binary digits, sixteen at most, are linked; a name is found by a walk along them.
+#![tactic(auto)]
+
 ghost use Rattle.std.specs.Prelude.{◌≡◌, ◌<◌};
 ghost use Rattle.general.specs.Lists.{blank};
 ghost use Rattle.names.specs.Table as table;
 
 // Where a name has its row, 0 for none, and its number.
-#[derive(Drop)]
+#[derive(Clone, Copy)]
 pub struct Found {
     pub row: usize,
     pub number: usize,

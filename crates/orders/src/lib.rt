@@ -1,5 +1,7 @@
 // The calls on one drive's slot board with a waiting list: open, read of each form of sheet, add, remove, slot. A change waits for the start of a
 // round; fetch is the list's own.
+#![tactic(auto)]
+
 ghost use Rattle.std.specs.Prelude.{◌≡◌, ◌-◌, ◌≤◌, ◌<◌, length};
 ghost use Rattle.calls.specs.Refusals as refusals;
 ghost use Rattle.calls.specs.Results.{if_clear};
@@ -16,7 +18,7 @@ use waiting::{Order, Outcome, Taking};
 
 // The answer of add and of remove: the idle leaves left; no room, and the idle leaves that there are; the ticket of an order that waits; no place for it;
 // a refusal.
-#[derive(Drop)]
+#[derive(Clone, Copy)]
 pub enum Ordering {
     Done(u16),
     Room(u16),
@@ -25,14 +27,14 @@ pub enum Ordering {
     Refused(Refusal),
 }
 
-#[derive(Drop)]
+#[derive(Clone, Copy)]
 pub struct Ordered {
     pub drive: Drive,
     pub answer: Ordering,
 }
 
 // How a change is taken: not at all, on the list, or at once.
-#[derive(Drop)]
+#[derive(Clone, Copy)]
 pub enum Way {
     Refused(Refusal),
     Wait,

@@ -1,12 +1,14 @@
 // Sheets of pieces that are made by hand, saved, read and turned into sheets of leaves and back: what each call answers to each row of the input, and what it
 // leaves behind. The expected output was worked out from document 02's No. 9.
-ghost use Rattle.std.specs.Prelude.{◌≤◌, ◌<◌, ◌+◌};
+#![tactic(auto)]
+
+ghost use Rattle.std.specs.Prelude.{IfOk, ◌≤◌, ◌<◌, ◌+◌};
 
 use calls::{Checked, Drive};
-use libc::STDIN_FILENO;
 use sheets::Saving;
+use std::io;
 use telling::answers::tell_checked;
-use telling::reading::{count_at, number_at, say_row};
+use telling::reading::{count_at, number_at, read_text, say_row, text_room};
 use telling::stores::{
     fill, fill_bytes, least, mark, mark_entries, number_in, put_number, within, within_bytes,
 };
@@ -111,30 +113,44 @@ fn turn_into(form: usize, sheet: &[u8], output: &mut [u8]) -> Saving {
 }
 
 // Turns the first bytes of a sheet into the form, with so much room in an output of 170s: the answer and the bytes, which it gives back.
-fn show_turn(form: usize, sheet: &[u8], bytes: usize, output: &mut [u8], room: usize) -> usize {
+fn show_turn(
+    rt: &impl Print,
+    form: usize,
+    sheet: &[u8],
+    bytes: usize,
+    output: &mut [u8],
+    room: usize,
+) -> io::Result<usize> {
     fill_bytes(output, 170);
     let m = within_bytes(bytes, sheet);
     let n = within_bytes(room, output);
-    tell_saving(turn_into(form, &sheet[..m], &mut output[..n]))
+    tell_saving(rt, turn_into(form, &sheet[..m], &mut output[..n]))
 }
 
 // Reads to a board that holds 60000 everywhere: the answer, C, p, and the mark of the board.
 fn show_read(
+    rt: &impl Print,
     form: usize,
     sheet: &[u8; 25600],
     bytes: usize,
     board: &mut [u16; 4095],
     entries: usize,
-) {
+) -> io::Result<()> {
     fill(board, 60000);
-    let drive = tell_checked(read_part(form, sheet, bytes, board, entries));
-    say_entry(drive.capacity);
-    say_entry(drive.position);
-    say_count(mark_entries(board));
+    let drive = tell_checked(rt, read_part(form, sheet, bytes, board, entries))?;
+    say_entry(rt, drive.capacity)?;
+    say_entry(rt, drive.position)?;
+    say_count(rt, mark_entries(board))
 }
 
 // A sheet of one block with two entries, read to 16 entries: a row is C, p, and name, start and exponent of each.
-fn run_entries(text: &[u8], at: usize, board: &mut [u16; 4095], sheet: &mut [u8; 25600])
+fn run_entries(
+    rt: &impl Print,
+    text: &[u8],
+    at: usize,
+    board: &mut [u16; 4095],
+    sheet: &mut [u8; 25600],
+) -> io::Result<()>
     requires { at ≤ 3000000 }
 {
     fill_bytes(sheet, 0);
@@ -142,9 +158,9 @@ fn run_entries(text: &[u8], at: usize, board: &mut [u16; 4095], sheet: &mut [u8;
     enter_row(text, at + 2, sheet, 0);
     enter_row(text, at + 5, sheet, 1);
     seal(sheet, 0);
-    say_row(text, at, 8);
-    show_read(PIECES, sheet, 512, board, 16);
-    end_line();
+    say_row(rt, text, at, 8)?;
+    show_read(rt, PIECES, sheet, 512, board, 16)?;
+    end_line(rt)
 }
 
 // Entry j of the first block: name, start and exponent at a place of the input.
@@ -171,7 +187,13 @@ fn make_block(sheet: &mut [u8; 25600], b: usize, p: usize, n: usize, a: usize)
 }
 
 // A sheet of two blocks: a row is how many names the first has and the second, p in each, and the bytes that are read.
-fn run_blocks(text: &[u8], at: usize, board: &mut [u16; 4095], sheet: &mut [u8; 25600])
+fn run_blocks(
+    rt: &impl Print,
+    text: &[u8],
+    at: usize,
+    board: &mut [u16; 4095],
+    sheet: &mut [u8; 25600],
+) -> io::Result<()>
     requires { at ≤ 3000000 }
 {
     let first = count_at(text, at);
@@ -184,9 +206,9 @@ fn run_blocks(text: &[u8], at: usize, board: &mut [u16; 4095], sheet: &mut [u8; 
         count_at(text, at + 1),
         first,
     );
-    say_row(text, at, 5);
-    show_read(PIECES, sheet, count_at(text, at + 4), board, 4095);
-    end_line();
+    say_row(rt, text, at, 5)?;
+    show_read(rt, PIECES, sheet, count_at(text, at + 4), board, 4095)?;
+    end_line(rt)
 }
 
 // A board of C names of one leaf each, saved as pieces at p, to a sheet of 170s.
@@ -199,51 +221,54 @@ fn save_names(n: u16, p: u16, board: &mut [u16; 4095], sheet: &mut [u8; 25600]) 
 
 // A row is C and p: saved, read by both readers, and turned into a sheet of leaves and back.
 fn run_trip(
+    rt: &impl Print,
     text: &[u8],
     at: usize,
     board: &mut [u16; 4095],
     sheet: &mut [u8; 25600],
     other: &mut [u8; 25600],
-)
+) -> io::Result<()>
     requires { at ≤ 3000000 }
 {
-    say_row(text, at, 2);
+    say_row(rt, text, at, 2)?;
     let answer = save_names(number_at(text, at), number_at(text, at + 1), board, sheet);
-    let bytes = tell_saving(answer);
-    say_count(mark(sheet));
-    show_read(PIECES, sheet, bytes, board, 4095);
-    show_read(LEAVES, sheet, bytes, board, 4095);
-    end_line();
-    let there = show_turn(LEAVES, sheet, bytes, other, BYTES);
-    say_count(mark(other));
-    let back = show_turn(PIECES, other, there, sheet, BYTES);
-    say_count(back);
-    say_count(mark(sheet));
-    show_read(PIECES, other, there, board, 4095);
-    end_line();
+    let bytes = tell_saving(rt, answer)?;
+    say_count(rt, mark(sheet))?;
+    show_read(rt, PIECES, sheet, bytes, board, 4095)?;
+    show_read(rt, LEAVES, sheet, bytes, board, 4095)?;
+    end_line(rt)?;
+    let there = show_turn(rt, LEAVES, sheet, bytes, other, BYTES)?;
+    say_count(rt, mark(other))?;
+    let back = show_turn(rt, PIECES, other, there, sheet, BYTES)?;
+    say_count(rt, back)?;
+    say_count(rt, mark(sheet))?;
+    show_read(rt, PIECES, other, there, board, 4095)?;
+    end_line(rt)
 }
 
 // What the conversions refuse: a row is C, p, how many bytes of the sheet are turned into leaves, and how much room there is.
 fn run_turn(
+    rt: &impl Print,
     text: &[u8],
     at: usize,
     board: &mut [u16; 4095],
     sheet: &mut [u8; 25600],
     other: &mut [u8; 25600],
-)
+) -> io::Result<()>
     requires { at ≤ 3000000 }
 {
     save_names(number_at(text, at), number_at(text, at + 1), board, sheet);
-    say_row(text, at, 4);
+    say_row(rt, text, at, 4)?;
     show_turn(
+        rt,
         LEAVES,
         sheet,
         count_at(text, at + 2),
         other,
         count_at(text, at + 3),
-    );
-    say_count(mark(other));
-    end_line();
+    )?;
+    say_count(rt, mark(other))?;
+    end_line(rt)
 }
 
 // The kinds of rows.
@@ -268,63 +293,81 @@ fn width(kind: usize) -> usize
 }
 
 fn run_row(
+    rt: &impl Print,
     kind: usize,
     text: &[u8],
     at: usize,
     board: &mut [u16; 4095],
     sheet: &mut [u8; 25600],
     other: &mut [u8; 25600],
-)
+) -> io::Result<()>
     requires { at ≤ 3000000 }
 {
     match kind {
-        ENTRIES => run_entries(text, at, board, sheet),
-        BLOCKS => run_blocks(text, at, board, sheet),
-        TRIP => run_trip(text, at, board, sheet, other),
-        _ => run_turn(text, at, board, sheet, other),
+        ENTRIES => run_entries(rt, text, at, board, sheet),
+        BLOCKS => run_blocks(rt, text, at, board, sheet),
+        TRIP => run_trip(rt, text, at, board, sheet, other),
+        _ => run_turn(rt, text, at, board, sheet, other),
     }
 }
 
 // The rows of one kind: how many there are, and then each. The place after them.
 fn run_rows(
+    rt: &impl Print,
     kind: usize,
     text: &[u8],
     at: usize,
     board: &mut [u16; 4095],
     sheet: &mut [u8; 25600],
     other: &mut [u8; 25600],
-) -> usize
+) -> io::Result<usize>
     requires { at ≤ 1600000 }
-    ensures { result ≤ at + 530000 }
+    ensures { IfOk result (λ end. end ≤ at + 530000) }
 {
     let n = count_at(text, at);
     let step = width(kind);
     let mut next = at + 1;
     let mut i: usize = 0;
     while i < n {
-        run_row(kind, text, next, board, sheet, other);
+        run_row(rt, kind, text, next, board, sheet, other)?;
         next += step;
         i += 1;
     }
-    next
+    Ok(next)
 }
 
-fn run(text: &[u8], board: &mut [u16; 4095], sheet: &mut [u8; 25600], other: &mut [u8; 25600]) {
+fn run(
+    rt: &impl Print,
+    text: &[u8],
+    board: &mut [u16; 4095],
+    sheet: &mut [u8; 25600],
+    other: &mut [u8; 25600],
+) -> io::Result<()> {
     say(
+        rt,
         b"one block, two entries: C, p, name, start, exponent, name, start, exponent; answer, C, p, mark of the board\n",
-    );
-    let blocks = run_rows(ENTRIES, text, 0, board, sheet, other);
-    say(b"two blocks: entries, entries, p, p, bytes; answer, C, p, mark of the board\n");
-    let trips = run_rows(BLOCKS, text, blocks, board, sheet, other);
+    )?;
+    let blocks = run_rows(rt, ENTRIES, text, 0, board, sheet, other)?;
     say(
+        rt,
+        b"two blocks: entries, entries, p, p, bytes; answer, C, p, mark of the board\n",
+    )?;
+    let trips = run_rows(rt, BLOCKS, text, blocks, board, sheet, other)?;
+    say(
+        rt,
         b"saved as pieces: C, p; answer, bytes, mark; read as pieces, and as leaves: answer, C, p, mark of the board\n",
-    );
+    )?;
     say(
+        rt,
         b"turned into leaves: answer, bytes, mark; back: answer, bytes, bytes, mark; the leaves read as pieces\n",
-    );
-    say(b"or a part of it turned into leaves: C, p, bytes, room; answer, bytes, mark\n");
-    let turns = run_rows(TRIP, text, trips, board, sheet, other);
-    run_rows(TURN, text, turns, board, sheet, other);
+    )?;
+    say(
+        rt,
+        b"or a part of it turned into leaves: C, p, bytes, room; answer, bytes, mark\n",
+    )?;
+    let turns = run_rows(rt, TRIP, text, trips, board, sheet, other)?;
+    run_rows(rt, TURN, text, turns, board, sheet, other)?;
+    Ok(())
 }
 
 fn blank_board() -> [u16; 4095] {
@@ -335,11 +378,11 @@ fn blank_sheet() -> [u8; 25600] {
     [0u8; 25600]
 }
 
-fn main() {
+fn main(rt: HostRuntime) -> io::Result<()> {
     let mut board = blank_board();
     let mut sheet = blank_sheet();
     let mut other = blank_sheet();
-    let mut text = io::large_buffer();
-    let n = io::read_full(STDIN_FILENO, &mut text);
-    run(&text[..n], &mut board, &mut sheet, &mut other);
+    let mut text = text_room();
+    let n = read_text(&rt, &mut text)?;
+    run(&rt, &text[..n], &mut board, &mut sheet, &mut other)
 }

@@ -17,7 +17,6 @@ use Rattle.pieces.proofs.Replace.{bounds, NoParent, Agree, Outside, whole_agree,
 use Rattle.pieces.proofs.Weight.{leaves_runs, number_sum}
 use Rattle.pieces.proofs.Piece.{in_cases, in_trans, apart, Twin, twin_of, whole_sub, Piece, pieces_counted}
 use Rattle.pieces.proofs.Placed.{no_parent, no_parent_twin, one_parent, Filled}
-use Rattle.pieces.proofs.Adding.{filled}
 
 -- ---- sums
 

@@ -1,5 +1,7 @@
 // Pieces of a slot board: the test for a good board, the search for idle pieces, placing and tidying, laying out afresh.
 // A board is a lent slice of leaves of which the first c count. Searches halve the block of 2^12 leaves that holds every board.
+#![tactic(auto)]
+
 ghost use Rattle.std.specs.Prelude.{◌≡◌, true, ◌+◌, ◌^◌, ◌≤◌, ◌<◌, get_or, length};
 ghost use Rattle.names.specs.Table.{Empty};
 ghost use Rattle.pieces.specs.Board as boards;
@@ -80,7 +82,7 @@ fn countable(c: usize, a: usize, l: usize) -> bool
 }
 
 // What a count of a block's idle leaves tells: that all its leaves are idle, that none is, or neither. Where they are not counted it is neither.
-#[derive(Drop)]
+#[derive(Clone, Copy)]
 enum Idle {
     All,
     None,
@@ -137,7 +139,7 @@ pub fn fill(board: &mut [u16], a: usize, size: usize, name: u16)
 }
 
 // What became of a weight: placed, with the idle leaves left; or more than there is room for, with the idle leaves there are.
-#[derive(Drop)]
+#[derive(Clone, Copy)]
 pub enum Admission {
     Placed(usize),
     Room(usize),

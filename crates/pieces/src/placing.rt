@@ -6,7 +6,7 @@ ghost use Rattle.pieces.specs.Halving as halving;
 use crate::{Idle, fill, idle_leaves, size_of};
 
 // Where a search finds an idle piece: nowhere, or by its exponent and start.
-#[derive(Drop)]
+#[derive(Clone, Copy)]
 enum Spot {
     Nowhere,
     At { exponent: usize, start: usize },

@@ -89,7 +89,7 @@ fn list_idle(board: &[u16], c: usize, a: usize, l: usize, starts: &mut [usize]) 
 }
 
 // Two idle pieces of one size, by its exponent and their starts; or that no size has two.
-#[derive(Drop)]
+#[derive(Clone, Copy)]
 enum Pair {
     Unpaired,
     Two {

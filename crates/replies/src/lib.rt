@@ -1,4 +1,6 @@
 // What the exported functions give back: the answer of each call in plain numbers, and the record beside it. An enum cannot cross to C.
+#![tactic(auto)]
+
 ghost use Rattle.std.specs.Prelude.{◌≡◌};
 ghost use Rattle.calls.specs.Answers.{check_answer, serving_answer, report_answer};
 ghost use Rattle.sheets.specs.Results.{saving_answer};
@@ -19,7 +21,7 @@ use waiting::Fetching;
 // What a call says: the answer's number, 0 for done, and its values in the order of document 01; a value that an answer does not have is 0. 64 bits each, so
 // that every value there is has room: a leaf, a round number, a ticket.
 #[repr(C)]
-#[derive(Drop)]
+#[derive(Clone, Copy)]
 pub struct Said {
     pub number: u64,
     pub first: u64,
@@ -30,7 +32,7 @@ pub struct Said {
 
 // What a call gives back: the record, and what it says.
 #[repr(C)]
-#[derive(Drop)]
+#[derive(Clone, Copy)]
 pub struct Reply {
     pub drive: Drive,
     pub said: Said,

@@ -1,5 +1,7 @@
 // The slot order of one drive's board: one slot from a position, by the weight spread sequence and the time-slot sequences of source document 001.
 // What each function returns is a definition of specs/. All numbers are usize: a capacity, a position and a leaf are below 4,096.
+#![tactic(auto)]
+
 ghost use Rattle.std.specs.Prelude.{◌≡◌, ◌^◌, ◌<◌, ◌≤◌};
 ghost use Rattle.sequences.specs.Sequences.{rb};
 ghost use Rattle.sequences.specs.SlotOrder as board;
@@ -84,7 +86,7 @@ fn position_after(k: usize, p: usize) -> usize
 }
 
 // One slot: the leaf served, how many terms were passed over (0 or 1), and the position after it.
-#[derive(Drop)]
+#[derive(Clone, Copy)]
 pub struct Slot {
     pub leaf: usize,
     pub passed: usize,

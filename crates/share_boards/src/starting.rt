@@ -8,14 +8,14 @@ use calls::{Check, Checked, Drive, Refusal};
 use sheets::Saving;
 
 // The answer of save: how many bytes it wrote; that an over-allocated stream is held, which no sheet can tell; a refusal.
-#[derive(Drop)]
+#[derive(Clone, Copy)]
 pub enum ShareSaving {
     Done(usize),
     Kind,
     Refused(Refusal),
 }
 
-#[derive(Drop)]
+#[derive(Clone, Copy)]
 pub struct ShareSaved {
     pub drive: Drive,
     pub answer: ShareSaving,

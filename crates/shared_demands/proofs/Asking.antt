@@ -49,30 +49,30 @@ rate_held C B T x h = rw (ne_eqb (weight C B x) 0 (λ e. omega arith)) refl
 -- ---- a weight is placed
 
 module _ (C : ℕ) (B T : List ℕ) (x w : ℕ) (may : Placeable C B x w) (some : 0 < w) (fit : rates_fit C B T ≡ true) (fit' : rates_fit C (placed C B x w) T ≡ true) where
-  abbrev B'' : List ℕ
-  B'' = placed C B x w
+  abbrev B' : List ℕ
+  B' = placed C B x w
 
   -- the new stream has no r yet
   placed_own : rate_in C (placed C B x w) T x ≡ 0
-  placed_own = rate_held C B'' T x (omega (arith, placed_weight C B x w may)) ∙ new_rate C B T x w may fit some
+  placed_own = rate_held C B' T x (omega (arith, placed_weight C B x w may)) ∙ new_rate C B T x w may fit some
 
   -- an r stands at the same leaf before and after
-  stays : (y : ℕ) → (y ≡ 0 → ⊥) → 0 < weight C B y → 0 < weight C B'' y → get_or T (lowest C B'' y) 0 ≡ get_or T (lowest C B y) 0
+  stays : (y : ℕ) → (y ≡ 0 → ⊥) → 0 < weight C B y → 0 < weight C B' y → get_or T (lowest C B' y) 0 ≡ get_or T (lowest C B y) 0
   stays y named was is =
       let i = lowest C B y in
-      let j = lowest C B'' y in
+      let j = lowest C B' y in
       let hi = lowest_held B y C was in
-      let hj = lowest_held B'' y C is in
+      let hj = lowest_held B' y C is in
       elim (ℕ_discrete (get_or T i 0) 0) [
         | no n ↦
-            let name : get_or B'' i 0 ≡ y = placed_leaf C B x w may i (λ e. named (sym (lowest_name B y C hi) ∙ e)) ∙ lowest_name B y C hi in
-            let r = rated_at C B'' T fit' i hi n in
-            ap (λ (k : ℕ). get_or T k 0) (sym (ap (lowest C B'') name) ∙ r.low)
+            let name : get_or B' i 0 ≡ y = placed_leaf C B x w may i (λ e. named (sym (lowest_name B y C hi) ∙ e)) ∙ lowest_name B y C hi in
+            let r = rated_at C B' T fit' i hi n in
+            ap (λ (k : ℕ). get_or T k 0) (sym (ap (lowest C B') name) ∙ r.low)
         | yes z ↦ elim (ℕ_discrete (get_or T j 0) 0) [
           | yes v ↦ v ∙ sym z
           | no n ↦
               let r = rated_at C B T fit j hj n in
-              let name : get_or B j 0 ≡ y = sym (placed_leaf C B x w may j r.named) ∙ lowest_name B'' y C hj in
+              let name : get_or B j 0 ≡ y = sym (placed_leaf C B x w may j r.named) ∙ lowest_name B' y C hj in
               ap (λ (k : ℕ). get_or T k 0) (sym (sym (ap (lowest C B) name) ∙ r.low))
         ]
       ]
@@ -81,31 +81,31 @@ module _ (C : ℕ) (B T : List ℕ) (x w : ℕ) (may : Placeable C B x w) (some 
   placed_other y named n =
       let same = placed_others C B x w may y named n in
       elim (ℕ_discrete (weight C B y) 0) [
-        | yes z ↦ rate_absent C B'' T y (same ∙ z) ∙ sym (rate_absent C B T y z)
+        | yes z ↦ rate_absent C B' T y (same ∙ z) ∙ sym (rate_absent C B T y z)
         | no h ↦
             let was : 0 < weight C B y = omega arith in
-            let is : 0 < weight C B'' y = omega arith in
-            rate_held C B'' T y is ∙ stays y named was is ∙ sym (rate_held C B T y was)
+            let is : 0 < weight C B' y = omega arith in
+            rate_held C B' T y is ∙ stays y named was is ∙ sym (rate_held C B T y was)
       ]
 
   -- r entered for it
   module _ (r : ℕ) (long : C ≤ length T) where
     abbrev T' : List ℕ
-    T' = rated_table C B'' T x r
+    T' = rated_table C B' T x r
 
     rated_own : rate_in C (placed C B x w) (rated_table C (placed C B x w) T x r) x ≡ r
     unfolding rated_table
-    rated_own = rate_held C B'' T' x (omega (arith, placed_weight C B x w may)) ∙ get_or-set_same T (lowest C B'' x) r 0 (omega (arith, new_below C B T x w may fit some))
+    rated_own = rate_held C B' T' x (omega (arith, placed_weight C B x w may)) ∙ get_or-set_same T (lowest C B' x) r 0 (omega (arith, new_below C B T x w may fit some))
 
     rated_other : (y : ℕ) → (y ≡ 0 → ⊥) → (y ≡ x → ⊥) → rate_in C (placed C B x w) (rated_table C (placed C B x w) T x r) y ≡ rate_in C B T y
     unfolding rated_table
     rated_other y named n =
-        elim (ℕ_discrete (weight C B'' y) 0) [
-          | yes z ↦ rate_absent C B'' T' y z ∙ sym (rate_absent C B T y (sym (placed_others C B x w may y named n) ∙ z))
+        elim (ℕ_discrete (weight C B' y) 0) [
+          | yes z ↦ rate_absent C B' T' y z ∙ sym (rate_absent C B T y (sym (placed_others C B x w may y named n) ∙ z))
           | no h ↦
-              let is : 0 < weight C B'' y = omega arith in
-              let apart : lowest C B'' y ≡ lowest C B'' x → ⊥ = λ e. n (sym (lowest_name B'' y C (lowest_held B'' y C is)) ∙ ap (λ (k : ℕ). get_or B'' k 0) e ∙ new_name C B T x w may fit some) in
-              rate_held C B'' T' y is ∙ get_or-set_other T (lowest C B'' x) (lowest C B'' y) r 0 apart ∙ sym (rate_held C B'' T y is) ∙ placed_other y named n
+              let is : 0 < weight C B' y = omega arith in
+              let apart : lowest C B' y ≡ lowest C B' x → ⊥ = λ e. n (sym (lowest_name B' y C (lowest_held B' y C is)) ∙ ap (λ (k : ℕ). get_or B' k 0) e ∙ new_name C B T x w may fit some) in
+              rate_held C B' T' y is ∙ get_or-set_other T (lowest C B' x) (lowest C B' y) r 0 apart ∙ sym (rate_held C B' T y is) ∙ placed_other y named n
         ]
 
 -- ---- a stream is removed

@@ -8,7 +8,7 @@ use native.Mathlib.Omega.{arith}
 use lib.ListN.{length}
 use Rattle.general.proofs.Laws.{by_bool}
 use Rattle.pieces.specs.Board.{good}
-use Rattle.calls.specs.declared.Check.TheVariants.{Clear, Refused}
+use Rattle.calls.specs.declared.Check.TheVariants.{Clear}
 use Rattle.calls.proofs.Laws.{either_length}
 use Rattle.tables.specs.Sharing.{all_zero}
 use Rattle.tables.proofs.Laws.{zero_elim, fits_parts}

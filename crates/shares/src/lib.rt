@@ -1,6 +1,8 @@
 // The calls that are lent the tables of over-allocated streams, for two drives on one board with one waiting list: add, over-allocated add, remove, slot. `own` is
 // the record of the drive that the call is for, and comes back; `other` is the other drive's, and is only looked at; `owed` and `owed_other` are their deficits. A
 // single drive gives its record in both places and lends a second table of deficits, which stays zero. Every call looks at the whole board and every table.
+#![tactic(auto)]
+
 ghost use Rattle.std.specs.Prelude.{◌≡◌, ◌||◌, ◌≤◌, ◌<◌, ltb, length};
 ghost use Rattle.calls.specs.declared.Check.TheVariants.{Clear};
 ghost use Rattle.orders.specs.Checks as words;

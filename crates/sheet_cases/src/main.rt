@@ -1,12 +1,14 @@
 // Sheets that are saved, changed and read: what save and read answer to each row of the input, and what they leave behind.
 // The expected output was worked out from document 01.
-ghost use Rattle.std.specs.Prelude.{◌≤◌, ◌<◌, ◌+◌};
+#![tactic(auto)]
+
+ghost use Rattle.std.specs.Prelude.{IfOk, ◌≤◌, ◌<◌, ◌+◌};
 
 use calls::{Checked, Drive};
-use libc::STDIN_FILENO;
 use sheets::{Saved, Saving};
+use std::io;
 use telling::answers::{check_number, tell_checked};
-use telling::reading::{count_at, number_at, say_row};
+use telling::reading::{count_at, number_at, read_text, say_row, text_room};
 use telling::stores::{
     count, fill, fill_bytes, mark, number_in, put_number, wide, within, within_bytes,
 };
@@ -107,41 +109,65 @@ fn mark_part(sheet: &[u8], bytes: usize) -> usize {
 }
 
 // Reads the first bytes of a sheet to the first entries of a board that holds 60000 everywhere: the answer, C, p, and how many entries are set.
-fn show_read(sheet: &[u8; 9216], bytes: usize, board: &mut [u16; 4095], entries: usize) {
+fn show_read(
+    rt: &impl Print,
+    sheet: &[u8; 9216],
+    bytes: usize,
+    board: &mut [u16; 4095],
+    entries: usize,
+) -> io::Result<()> {
     fill(board, 60000);
-    let drive = tell_checked(read_part(sheet, bytes, board, entries));
-    say_entry(drive.capacity);
-    say_entry(drive.position);
-    say_count(4095 - count(board, 4095, 60000));
+    let drive = tell_checked(rt, read_part(sheet, bytes, board, entries))?;
+    say_entry(rt, drive.capacity)?;
+    say_entry(rt, drive.position)?;
+    say_count(rt, 4095 - count(board, 4095, 60000))
 }
 
 // Saves a board, and reads it back.
-fn round_trip(capacity: u16, leaves: u16, board: &mut [u16; 4095], sheet: &mut [u8; 9216])
+fn round_trip(
+    rt: &impl Print,
+    capacity: u16,
+    leaves: u16,
+    board: &mut [u16; 4095],
+    sheet: &mut [u8; 9216],
+) -> io::Result<()>
     requires { capacity ≤ 4095 }
 {
     let answer = save_board(capacity, leaves, board, sheet);
-    say_after(b"", capacity as u64);
-    say_entry(leaves);
-    let bytes = tell_saving(answer);
-    say_count(mark_part(sheet, bytes));
-    show_read(sheet, bytes, board, 4095);
-    say_number(count_leaves(board, leaves, capacity));
-    end_line();
+    say_after(rt, b"", capacity as u64)?;
+    say_entry(rt, leaves)?;
+    let bytes = tell_saving(rt, answer)?;
+    say_count(rt, mark_part(sheet, bytes))?;
+    show_read(rt, sheet, bytes, board, 4095)?;
+    say_number(rt, count_leaves(board, leaves, capacity))?;
+    end_line(rt)
 }
 
 // The boards of a capacity with leaves of each kind that is good.
-fn run_capacity(capacity: u16, board: &mut [u16; 4095], sheet: &mut [u8; 9216]) {
+fn run_capacity(
+    rt: &impl Print,
+    capacity: u16,
+    board: &mut [u16; 4095],
+    sheet: &mut [u8; 9216],
+) -> io::Result<()> {
     if capacity <= 4095 {
-        round_trip(capacity, 0, board, sheet);
-        round_trip(capacity, 1, board, sheet);
-        round_trip(capacity, 2, board, sheet);
-        round_trip(capacity, 3, board, sheet);
+        round_trip(rt, capacity, 0, board, sheet)?;
+        round_trip(rt, capacity, 1, board, sheet)?;
+        round_trip(rt, capacity, 2, board, sheet)?;
+        round_trip(rt, capacity, 3, board, sheet)?;
     }
+    Ok(())
 }
 
 // One save, of a row: C, p, the board's leaves, how many entries the board has, and how many bytes the output has. The answer, the bytes, the record, and
 // what the output then holds.
-fn run_save(text: &[u8], at: usize, board: &mut [u16; 4095], sheet: &mut [u8; 9216])
+fn run_save(
+    rt: &impl Print,
+    text: &[u8],
+    at: usize,
+    board: &mut [u16; 4095],
+    sheet: &mut [u8; 9216],
+) -> io::Result<()>
     requires { at ≤ 2000000 }
 {
     let entries = number_at(text, at + 3);
@@ -155,18 +181,24 @@ fn run_save(text: &[u8], at: usize, board: &mut [u16; 4095], sheet: &mut [u8; 92
         sheet,
         count_at(text, at + 4),
     );
-    say_row(text, at, 5);
+    say_row(rt, text, at, 5)?;
     let answer = saved.answer;
-    tell_saving(answer);
-    say_entry(saved.drive.capacity);
-    say_entry(saved.drive.position);
-    say_count(mark(sheet));
-    end_line();
+    tell_saving(rt, answer)?;
+    say_entry(rt, saved.drive.capacity)?;
+    say_entry(rt, saved.drive.position)?;
+    say_count(rt, mark(sheet))?;
+    end_line(rt)
 }
 
 // One read, of a row: the C and the leaves of the board that is saved, two numbers of its sheet and what they become, whether the sums are made right
 // again, how many bytes are read, and how many entries the lent board has.
-fn run_read(text: &[u8], at: usize, board: &mut [u16; 4095], sheet: &mut [u8; 9216])
+fn run_read(
+    rt: &impl Print,
+    text: &[u8],
+    at: usize,
+    board: &mut [u16; 4095],
+    sheet: &mut [u8; 9216],
+) -> io::Result<()>
     requires { at ≤ 2000000 }
 {
     let mended = number_at(text, at + 6);
@@ -174,9 +206,15 @@ fn run_read(text: &[u8], at: usize, board: &mut [u16; 4095], sheet: &mut [u8; 92
     save_board(number_at(text, at), number_at(text, at + 1), board, sheet);
     change(text, at + 2, mended, sheet);
     change(text, at + 4, mended, sheet);
-    say_row(text, at, 9);
-    show_read(sheet, count_at(text, at + 7), board, count_at(text, at + 8));
-    end_line();
+    say_row(rt, text, at, 9)?;
+    show_read(
+        rt,
+        sheet,
+        count_at(text, at + 7),
+        board,
+        count_at(text, at + 8),
+    )?;
+    end_line(rt)
 }
 
 // The kinds of rows: a capacity whose boards are saved and read back, a save, a read.
@@ -197,63 +235,73 @@ fn width(kind: usize) -> usize
     }
 }
 
-fn run_row(kind: usize, text: &[u8], at: usize, board: &mut [u16; 4095], sheet: &mut [u8; 9216])
-    requires { at ≤ 2000000 }
-{
-    match kind {
-        SAVED => run_capacity(number_at(text, at), board, sheet),
-        SAVE => run_save(text, at, board, sheet),
-        _ => run_read(text, at, board, sheet),
-    }
-}
-
-// The rows of one kind: how many there are, and then each. The place after them.
-fn run_rows(
+fn run_row(
+    rt: &impl Print,
     kind: usize,
     text: &[u8],
     at: usize,
     board: &mut [u16; 4095],
     sheet: &mut [u8; 9216],
-) -> usize
+) -> io::Result<()>
+    requires { at ≤ 2000000 }
+{
+    match kind {
+        SAVED => run_capacity(rt, number_at(text, at), board, sheet),
+        SAVE => run_save(rt, text, at, board, sheet),
+        _ => run_read(rt, text, at, board, sheet),
+    }
+}
+
+// The rows of one kind: how many there are, and then each. The place after them.
+fn run_rows(
+    rt: &impl Print,
+    kind: usize,
+    text: &[u8],
+    at: usize,
+    board: &mut [u16; 4095],
+    sheet: &mut [u8; 9216],
+) -> io::Result<usize>
     requires { at ≤ 1300000 }
-    ensures { result ≤ at + 600000 }
+    ensures { IfOk result (λ end. end ≤ at + 600000) }
 {
     let n = count_at(text, at);
     let step = width(kind);
     let mut next = at + 1;
     let mut i: usize = 0;
     while i < n {
-        run_row(kind, text, next, board, sheet);
+        run_row(rt, kind, text, next, board, sheet)?;
         next += step;
         i += 1;
     }
-    next
+    Ok(next)
 }
 
 // The answer of read where one byte is changed by so much.
 fn show_byte(
+    rt: &impl Print,
     sheet: &mut [u8; 9216],
     i: usize,
     by: usize,
     bytes: usize,
     board: &mut [u16; 4095],
     entries: usize,
-)
+) -> io::Result<()>
     requires { (i < 9216) × (by ≤ 255) }
 {
     let old = sheet[i];
     sheet[i] = ((wide(old) + by) % 256) as u8;
     let loaded = read_part(sheet, bytes, board, entries);
     let answer = loaded.answer;
-    if 0 < i {
-        say(b" ");
-    }
-    say_after(b"", check_number(answer));
     sheet[i] = old;
+    if 0 < i {
+        say(rt, b" ")?;
+    }
+    say_after(rt, b"", check_number(answer))
 }
 
 // The same for each byte of a sheet, or one in so many.
 fn run_bytes(
+    rt: &impl Print,
     capacity: u16,
     leaves: u16,
     step: usize,
@@ -262,32 +310,32 @@ fn run_bytes(
     entries: usize,
     board: &mut [u16; 4095],
     sheet: &mut [u8; 9216],
-)
+) -> io::Result<()>
     requires { (0 < step) × (step ≤ 100) × (bytes ≤ 9216) × (by ≤ 255) }
 {
-    say(b"read, one byte changed: C, one in, by, entries lent");
-    say_entry(capacity);
-    say_count(step);
-    say_count(by);
-    say_count(entries);
-    end_line();
+    say(rt, b"read, one byte changed: C, one in, by, entries lent")?;
+    say_entry(rt, capacity)?;
+    say_count(rt, step)?;
+    say_count(rt, by)?;
+    say_count(rt, entries)?;
+    end_line(rt)?;
     save_board(capacity, leaves, board, sheet);
     let mut i: usize = 0;
     while i < bytes {
-        show_byte(sheet, i, by, bytes, board, entries);
+        show_byte(rt, sheet, i, by, bytes, board, entries)?;
         i += step;
     }
-    end_line();
+    end_line(rt)
 }
 
 // Each byte of a sheet of one block changed, by amounts that make its C larger, smaller, zero and too large, and some of seventeen blocks.
-fn run_changes(board: &mut [u16; 4095], sheet: &mut [u8; 9216]) {
-    run_bytes(5, 2, 1, 1, 512, 4095, board, sheet);
-    run_bytes(5, 2, 1, 128, 512, 4095, board, sheet);
-    run_bytes(5, 2, 1, 1, 512, 5, board, sheet);
-    run_bytes(5, 2, 1, 251, 512, 4095, board, sheet);
-    run_bytes(4095, 3, 97, 1, 8704, 4095, board, sheet);
-    run_bytes(4095, 3, 61, 128, 8704, 4095, board, sheet);
+fn run_changes(rt: &impl Print, board: &mut [u16; 4095], sheet: &mut [u8; 9216]) -> io::Result<()> {
+    run_bytes(rt, 5, 2, 1, 1, 512, 4095, board, sheet)?;
+    run_bytes(rt, 5, 2, 1, 128, 512, 4095, board, sheet)?;
+    run_bytes(rt, 5, 2, 1, 1, 512, 5, board, sheet)?;
+    run_bytes(rt, 5, 2, 1, 251, 512, 4095, board, sheet)?;
+    run_bytes(rt, 4095, 3, 97, 1, 8704, 4095, board, sheet)?;
+    run_bytes(rt, 4095, 3, 61, 128, 8704, 4095, board, sheet)
 }
 
 // 1 where two numbers are equal.
@@ -314,20 +362,28 @@ fn count_lengths(sheet: &[u8; 9216], board: &mut [u16; 4095], number: u64) -> u6
 }
 
 // Every length of a sheet: one is answered 0, which the boards read back above tell, and all others 12.
-fn show_lengths(capacity: u16, board: &mut [u16; 4095], sheet: &mut [u8; 9216]) {
+fn show_lengths(
+    rt: &impl Print,
+    capacity: u16,
+    board: &mut [u16; 4095],
+    sheet: &mut [u8; 9216],
+) -> io::Result<()> {
     save_board(capacity, 2, board, sheet);
-    say_after(b"", capacity as u64);
-    say_number(count_lengths(sheet, board, 0));
-    say_number(count_lengths(sheet, board, 12));
-    end_line();
+    say_after(rt, b"", capacity as u64)?;
+    say_number(rt, count_lengths(sheet, board, 0))?;
+    say_number(rt, count_lengths(sheet, board, 12))?;
+    end_line(rt)
 }
 
-fn run_lengths(board: &mut [u16; 4095], sheet: &mut [u8; 9216]) {
-    say(b"read, each length from 0 to 9216: C, how many are answered 0, and 12\n");
-    show_lengths(1, board, sheet);
-    show_lengths(253, board, sheet);
-    show_lengths(254, board, sheet);
-    show_lengths(4095, board, sheet);
+fn run_lengths(rt: &impl Print, board: &mut [u16; 4095], sheet: &mut [u8; 9216]) -> io::Result<()> {
+    say(
+        rt,
+        b"read, each length from 0 to 9216: C, how many are answered 0, and 12\n",
+    )?;
+    show_lengths(rt, 1, board, sheet)?;
+    show_lengths(rt, 253, board, sheet)?;
+    show_lengths(rt, 254, board, sheet)?;
+    show_lengths(rt, 4095, board, sheet)
 }
 
 fn blank_board() -> [u16; 4095] {
@@ -338,25 +394,35 @@ fn blank_sheet() -> [u8; 9216] {
     [0u8; 9216]
 }
 
-fn run(text: &[u8], board: &mut [u16; 4095], sheet: &mut [u8; 9216]) {
+fn run(
+    rt: &impl Print,
+    text: &[u8],
+    board: &mut [u16; 4095],
+    sheet: &mut [u8; 9216],
+) -> io::Result<()> {
     say(
+        rt,
         b"saved and read back: C, leaves, answer, bytes, mark of the bytes; answer, C, p, entries set, leaves kept\n",
-    );
-    let saves = run_rows(SAVED, text, 0, board, sheet);
-    say(b"save: C, p, leaves, entries, bytes lent; answer, bytes, C, p, mark of the output\n");
-    let reads = run_rows(SAVE, text, saves, board, sheet);
+    )?;
+    let saves = run_rows(rt, SAVED, text, 0, board, sheet)?;
     say(
+        rt,
+        b"save: C, p, leaves, entries, bytes lent; answer, bytes, C, p, mark of the output\n",
+    )?;
+    let reads = run_rows(rt, SAVE, text, saves, board, sheet)?;
+    say(
+        rt,
         b"read: C, leaves, number changed to, number changed to, sums mended, bytes read, entries lent; answer, C, p, entries set\n",
-    );
-    run_rows(READ, text, reads, board, sheet);
-    run_changes(board, sheet);
-    run_lengths(board, sheet);
+    )?;
+    run_rows(rt, READ, text, reads, board, sheet)?;
+    run_changes(rt, board, sheet)?;
+    run_lengths(rt, board, sheet)
 }
 
-fn main() {
+fn main(rt: HostRuntime) -> io::Result<()> {
     let mut board = blank_board();
     let mut sheet = blank_sheet();
-    let mut text = io::large_buffer();
-    let n = io::read_full(STDIN_FILENO, &mut text);
-    run(&text[..n], &mut board, &mut sheet);
+    let mut text = text_room();
+    let n = read_text(&rt, &mut text)?;
+    run(&rt, &text[..n], &mut board, &mut sheet)
 }

@@ -1,4 +1,6 @@
 // Sheets of a board, in two forms, one that lists its leaves and one that lists its pieces: save and read, and from one form to the other.
+#![tactic(auto)]
+
 ghost use Rattle.std.specs.Prelude.{◌≡◌, ◌++◌, ◌*◌, ◌≤◌, ◌<◌, length, drop, replicate};
 ghost use Rattle.calls.specs.Refusals.{good_check, slot_check, and_then};
 ghost use Rattle.calls.specs.Results.{if_clear};
@@ -17,13 +19,13 @@ mod entries;
 mod leaves;
 
 // The answer of save: how many bytes it wrote.
-#[derive(Drop)]
+#[derive(Clone, Copy)]
 pub enum Saving {
     Done(usize),
     Refused(Refusal),
 }
 
-#[derive(Drop)]
+#[derive(Clone, Copy)]
 pub struct Saved {
     pub drive: Drive,
     pub answer: Saving,

@@ -1,7 +1,6 @@
 -- What the functions that look through a board or a table promise: entries, marks by name, the leaf that decides a turn. No promise of a call cites it.
 -- Assumes nothing.
 use Rattle.std.specs.Prelude.{◌≡◌, Bool, not, ◌&&◌, ◌||◌, cond, List, ◌⊎◌, ℕ, zero, suc, ◌+◌, ◌-◌, ◌%◌, ◌≤◌, ◌<◌, eqb, ltb, get_or}
-use Rattle.general.specs.Tests.{one}
 use Rattle.names.specs.Table.{Table, number_under}
 use Rattle.pieces.specs.Board.{weight}
 use Rattle.tables.specs.Sharing.{held_for, lowest, leads}

@@ -1,5 +1,7 @@
 // The lent tables of over-allocated streams: one entry for each leaf, r or how far a deficit is below 0, at the lowest leaf of the stream. Each function here
 // looks at one board and writes one table, or settles the three of two drives; none knows a record, a list or a refusal.
+#![tactic(auto)]
+
 ghost use Rattle.std.specs.Prelude.{◌≡◌, ◌≤◌, ◌<◌, length, replicate};
 ghost use Rattle.pieces.specs.Board.{weight};
 ghost use Rattle.tables.specs.Sharing as sharing;

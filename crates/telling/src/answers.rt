@@ -1,6 +1,7 @@
 // What a call said, printed: the answer's number and its values, zeros where it is refused. Each function gives back the record that came with the answer.
 use crate::{say, say_entry, say_number, say_refusal};
 use calls::{Change, Changed, Check, Checked, Drive, Refusal, Report, Reported, Served, Serving};
+use std::io;
 
 // The number of what the checks of a call found.
 pub fn check_number(answer: Check) -> u64 {
@@ -10,37 +11,37 @@ pub fn check_number(answer: Check) -> u64 {
     }
 }
 
-pub fn tell_checked(r: Checked) -> Drive {
+pub fn tell_checked(rt: &impl Print, r: Checked) -> io::Result<Drive> {
     let answer = r.answer;
-    say_number(check_number(answer));
-    r.drive
+    say_number(rt, check_number(answer))?;
+    Ok(r.drive)
 }
 
 // A number and a value.
-pub fn say_two(number: u64, value: u64) {
-    say_number(number);
-    say_number(value);
+pub fn say_two(rt: &impl Print, number: u64, value: u64) -> io::Result<()> {
+    say_number(rt, number)?;
+    say_number(rt, value)
 }
 
-pub fn tell_changed(r: Changed) -> Drive {
+pub fn tell_changed(rt: &impl Print, r: Changed) -> io::Result<Drive> {
     let answer = r.answer;
     match answer {
-        Change::Done(idle) => say_two(0, idle as u64),
-        Change::Room(idle) => say_two(Refusal::Room.number() as u64, idle as u64),
-        Change::Refused(why) => say_two(why.number() as u64, 0),
+        Change::Done(idle) => say_two(rt, 0, idle as u64)?,
+        Change::Room(idle) => say_two(rt, Refusal::Room.number() as u64, idle as u64)?,
+        Change::Refused(why) => say_two(rt, why.number() as u64, 0)?,
     }
-    r.drive
+    Ok(r.drive)
 }
 
 // The number and the values of a slot that is served, or of a stream that is reported.
-fn say_done(first: u16, second: u16, third: u16) {
-    say_number(0);
-    say_entry(first);
-    say_entry(second);
-    say_entry(third);
+fn say_done(rt: &impl Print, first: u16, second: u16, third: u16) -> io::Result<()> {
+    say_number(rt, 0)?;
+    say_entry(rt, first)?;
+    say_entry(rt, second)?;
+    say_entry(rt, third)
 }
 
-pub fn tell_served(r: Served) -> Drive {
+pub fn tell_served(rt: &impl Print, r: Served) -> io::Result<Drive> {
     let answer = r.answer;
     match answer {
         Serving::Slot {
@@ -49,29 +50,29 @@ pub fn tell_served(r: Served) -> Drive {
             passed,
             round,
         } => {
-            say_done(name, leaf, passed);
-            say_number(round);
+            say_done(rt, name, leaf, passed)?;
+            say_number(rt, round)?;
         }
         Serving::Refused(why) => {
-            say_refusal(why);
-            say(b" 0 0 0 0");
+            say_refusal(rt, why)?;
+            say(rt, b" 0 0 0 0")?;
         }
     }
-    r.drive
+    Ok(r.drive)
 }
 
-pub fn tell_reported(r: Reported) -> Drive {
+pub fn tell_reported(rt: &impl Print, r: Reported) -> io::Result<Drive> {
     let answer = r.answer;
     match answer {
         Report::Stream {
             weight,
             pieces,
             spacing,
-        } => say_done(weight, pieces, spacing),
+        } => say_done(rt, weight, pieces, spacing)?,
         Report::Refused(why) => {
-            say_refusal(why);
-            say(b" 0 0 0");
+            say_refusal(rt, why)?;
+            say(rt, b" 0 0 0")?;
         }
     }
-    r.drive
+    Ok(r.drive)
 }

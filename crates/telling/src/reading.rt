@@ -1,8 +1,34 @@
 // The numbers, lines and letters of a text. A number is a run of digits, whatever stands around it; its place is counted from 0 among the text's numbers.
-ghost use Rattle.std.specs.Prelude.{◌≤◌, length};
+ghost use Rattle.std.specs.Prelude.{◌≡◌, ◌≤◌, IfOk, length};
 
 use crate::{say_after, say_number};
 use calls::Drive;
+use std::io;
+use std::io::Read;
+
+// Room for the text of an input.
+pub fn text_room() -> [u8; 65536]
+    ensures { 65536 ≡ length result }
+{
+    [0; 65536]
+}
+
+// Reads standard input until `text` is full or the input ends, and says how many bytes it put at the start of `text`.
+// Where a read fails, what was read before it stands at the start of `text`, and nothing else of `text` is known.
+pub fn read_text(rt: &impl Input, text: &mut [u8]) -> io::Result<usize>
+    ensures { IfOk result (λ n. n ≤ length text.new) }
+{
+    let mut input = rt.reader();
+    let mut done: usize = 0;
+    while done < text.len() {
+        let n = input.read(&mut text[done..])?;
+        if n == 0 {
+            return Ok(done);
+        }
+        done += n;
+    }
+    Ok(done)
+}
 
 // A number with one more digit at its end.
 fn with_digit(value: u64, b: u8) -> u64 {
@@ -86,13 +112,14 @@ pub fn read_numbers(text: &[u8], table: &mut [u16]) {
 }
 
 // Prints n numbers from a place on, a space between them.
-pub fn say_row(text: &[u8], place: usize, n: usize)
+pub fn say_row(rt: &impl Print, text: &[u8], place: usize, n: usize) -> io::Result<()>
     requires { (place ≤ 16777216) × (n ≤ 16) }
 {
-    say_after(b"", long_at(text, place));
+    say_after(rt, b"", long_at(text, place))?;
     let mut i: usize = 1;
     while i < n {
-        say_number(long_at(text, place + i));
+        say_number(rt, long_at(text, place + i))?;
         i += 1;
     }
+    Ok(())
 }

@@ -1,6 +1,6 @@
 // What the programs lend and look at afterwards: boards of entries, waiting lists and the bytes of sheets.
 ghost use Rattle.std.specs.Prelude.{◌<◌, ◌≤◌};
-ghost use Rattle.io.specs.Counts.{IsPrefixLen};
+ghost use Rattle.std.specs.Counts.{IsPrefixLen};
 
 pub fn least(a: usize, b: usize) -> usize
     ensures { (result ≤ a) × (result ≤ b) }

@@ -1,7 +1,7 @@
 -- The marks of a subtree after t visits of its root: the root's mark is t % 2, the left half has had (t + 1) / 2 of them and the right half t / 2. One walk
 -- more makes that t + 1, and ends at the leaf RB(t, d) of the subtree, which is RB's own recursion. Assumes nothing.
 use mathlib.Core.Path.{◌≡◌, refl, sym, ◌∙◌, subst}
-use mathlib.Core.Bool.{true}
+use mathlib.Core.Bool.{true, false}
 use mathlib.Core.List.{List}
 use Prim.Native.Nat.{ℕ, zero, suc, ◌+◌, ◌*◌, ◌/◌, ◌%◌, ◌^◌, ◌≤◌, ◌<◌}
 use native.Mathlib.Nat.{pow-suc}
@@ -76,6 +76,15 @@ module _ (d : ℕ) (M : List ℕ) (i t : ℕ) (room : Marked (suc d) M i) (s : S
   abbrev StepsFrom : ℕ → ℕ → Type 0
   StepsFrom m k = Marked d (set M i m) k → Stands (set M i m) k d (t / 2) → Stepped d (set M i m) k (t / 2)
 
+  -- where the first step leads, and what it leaves
+  walked_left : eqb (get_or M i 0) 0 ≡ true → marks_from (suc d) M i ≡ marks_from d (set M i 1) (2 * i + 1)
+  unfolding marks_from
+  walked_left h = rw h
+
+  walked_right : eqb (get_or M i 0) 0 ≡ false → marks_from (suc d) M i ≡ marks_from d (set M i 0) (2 * i + 2)
+  unfolding marks_from
+  walked_right h = rw h
+
   step_left : t % 2 ≡ 0 → StepsFrom 1 (2 * i + 1) → Stepped (suc d) M i t
   unfolding Stands rb marks_from node_from
   step_left e steps =
@@ -90,7 +99,7 @@ module _ (d : ℕ) (M : List ℕ) (i t : ℕ) (room : Marked (suc d) M i) (s : S
       let ends = r.ends in
       let twice = dbl d (suc i) in
       record {
-        stands = rw mark (
+        stands = subst (λ (K : List ℕ). Stands K i (suc d) (suc t)) (sym (walked_left mark)) (
           own,
           rw more r.stands,
           rw half (stands_same d M N (2 * i + 2) (t / 2)
@@ -114,7 +123,7 @@ module _ (d : ℕ) (M : List ℕ) (i t : ℕ) (room : Marked (suc d) M i) (s : S
       let ends = r.ends in
       let twice = dbl d (suc i) in
       record {
-        stands = rw mark (
+        stands = subst (λ (K : List ℕ). Stands K i (suc d) (suc t)) (sym (walked_right mark)) (
           own,
           rw more (stands_same d M N (2 * i + 1) (suc t / 2)
               (λ j b. set_left 0 j b ∙ sym (marks_keep d (set M i 0) (2 * i + 2) j (λ a. apart d i j b a))) s.1),

@@ -1,5 +1,7 @@
 // The tree walk with flip marks of source document 001, figure 2, for boards whose capacity is a power of two: a second engine beside the sequences, which
 // shares no code with them.
+#![tactic(auto)]
+
 ghost use Rattle.std.specs.Prelude.{◌≡◌, cond, suc, ◌^◌, ◌≤◌, eqb, length, get_or, set};
 ghost use Rattle.tree.specs.Marks as marked;
 ghost use Rattle.tree.specs.Results as results;
@@ -8,7 +10,7 @@ ghost use Rattle.tree.specs.Promises as promises;
 use calls::{Drive, Refusal};
 
 // The answer of a walk: the name on the leaf, and the leaf; the capacity is no power of two; a refusal.
-#[derive(Drop)]
+#[derive(Clone, Copy)]
 pub enum Walking {
     Leaf { name: u16, leaf: u16 },
     Power,
@@ -16,7 +18,7 @@ pub enum Walking {
 }
 
 // What the checks of a walk find.
-#[derive(Drop)]
+#[derive(Clone, Copy)]
 pub enum Finding {
     Clear,
     Power,

@@ -1,9 +1,12 @@
 // Both engines side by side: for each power of two three rounds, slot by slot, by the sequences from p = 1 and by the tree walk from clear marks.
 // Then walks by marks that no round leaves, and refusals. Run, and not proved; the expected output was worked out from documents 01 and 02 and from source
 // document 001, figure 2.
+#![tactic(auto)]
+
 ghost use Rattle.std.specs.Prelude.{◌≤◌};
 
 use calls::{Drive, Serving};
+use std::io;
 use telling::reading::{count_at, number_at};
 use telling::stores::{count, with_entry, within};
 use telling::{end_line, say, say_after, say_entries, say_entry};
@@ -12,7 +15,7 @@ use tree::Walking;
 const ROUNDS: usize = 3;
 
 // What an engine says: the number, the name and the leaf.
-#[derive(Drop)]
+#[derive(Clone, Copy)]
 struct Said {
     number: u16,
     name: u16,
@@ -20,7 +23,7 @@ struct Said {
 }
 
 // What one slot of both comes to: the record after it, 1 where they agree, 1 where all marks are clear after it, and the leaf of the walk.
-#[derive(Drop)]
+#[derive(Clone, Copy)]
 struct Step {
     drive: Drive,
     agree: usize,
@@ -29,7 +32,7 @@ struct Step {
 }
 
 // Of the slots of both engines: how many agree, after how many all marks are clear, and a number that tells the leaves and their order.
-#[derive(Drop)]
+#[derive(Clone, Copy)]
 struct Score {
     agree: usize,
     clear: usize,
@@ -154,100 +157,121 @@ fn run(c: u16, inner: usize, board: &[u16], marks: &mut [u16], n: usize) -> Scor
 }
 
 // Three rounds of a board of c leaves.
-fn show_rounds(c: u16, board: &[u16; 4095], marks: &mut [u16; 4095])
+fn show_rounds(
+    rt: &impl Print,
+    c: u16,
+    board: &[u16; 4095],
+    marks: &mut [u16; 4095],
+) -> io::Result<()>
     requires { 1 ≤ c }
 {
     let leaves = c as usize;
     clear_marks(marks, leaves);
     let slots = ROUNDS * leaves;
     let s = run(c, leaves - 1, board, marks, slots);
-    say_after(b"C ", c as u64);
-    say_after(b", slots ", slots as u64);
-    say_after(b": alike ", s.agree as u64);
-    say_after(b", all marks clear after ", s.clear as u64);
-    say_after(b", marks beyond untouched ", count(marks, 4095, 9) as u64);
-    say_after(b", order ", s.order);
-    end_line();
+    say_after(rt, b"C ", c as u64)?;
+    say_after(rt, b", slots ", slots as u64)?;
+    say_after(rt, b": alike ", s.agree as u64)?;
+    say_after(rt, b", all marks clear after ", s.clear as u64)?;
+    say_after(
+        rt,
+        b", marks beyond untouched ",
+        count(marks, 4095, 9) as u64,
+    )?;
+    say_after(rt, b", order ", s.order)?;
+    end_line(rt)
 }
 
-fn show_engines(board: &[u16; 4095], marks: &mut [u16; 4095]) {
+fn show_engines(rt: &impl Print, board: &[u16; 4095], marks: &mut [u16; 4095]) -> io::Result<()> {
     let mut c: u16 = 1;
     while c < 4096 {
-        show_rounds(c, board, marks);
+        show_rounds(rt, c, board, marks)?;
         c = 2 * c;
     }
+    Ok(())
 }
 
 // One walk over the first n entries of the board and the first m marks; then the first five marks, lent or not.
-fn show_walk(c: u16, board: &[u16], n: usize, marks: &mut [u16], m: usize) {
+fn show_walk(
+    rt: &impl Print,
+    c: u16,
+    board: &[u16],
+    n: usize,
+    marks: &mut [u16],
+    m: usize,
+) -> io::Result<()> {
     let entries = within(n, board);
     let lent = within(m, marks);
     let s = by_walk(tree::walk(c, &board[..entries], &mut marks[..lent]));
-    say_after(b"walk ", c as u64);
-    say_after(b" of entries ", entries as u64);
-    say_after(b", marks ", lent as u64);
-    say_after(b": ", s.number as u64);
-    say_entry(s.name);
-    say_entry(s.leaf);
-    say(b", marks");
-    say_entries(marks, 0, 5);
-    end_line();
+    say_after(rt, b"walk ", c as u64)?;
+    say_after(rt, b" of entries ", entries as u64)?;
+    say_after(rt, b", marks ", lent as u64)?;
+    say_after(rt, b": ", s.number as u64)?;
+    say_entry(rt, s.name)?;
+    say_entry(rt, s.leaf)?;
+    say(rt, b", marks")?;
+    say_entries(rt, marks, 0, 5)?;
+    end_line(rt)
 }
 
 // The walks of a table: how many, and for each C, the entries of the board and the marks that are lent.
-fn show_walks(table: &[u8], board: &[u16], marks: &mut [u16]) {
+fn show_walks(rt: &impl Print, table: &[u8], board: &[u16], marks: &mut [u16]) -> io::Result<()> {
     let n = count_at(table, 0);
     let mut i: usize = 0;
     while i < n {
         let at = 3 * i + 1;
         show_walk(
+            rt,
             number_at(table, at),
             board,
             count_at(table, at + 1),
             marks,
             count_at(table, at + 2),
-        );
+        )?;
         i += 1;
     }
+    Ok(())
 }
 
 // A mark of any value but 0 leads right and becomes 0; the fourth and the fifth mark are none of a board of 4 leaves.
-fn show_marks(board: &[u16; 4095], marks: &mut [u16; 4095]) {
+fn show_marks(rt: &impl Print, board: &[u16; 4095], marks: &mut [u16; 4095]) -> io::Result<()> {
     marks[0] = 7;
     marks[1] = 2;
     marks[2] = 65535;
     marks[3] = 9;
     marks[4] = 256;
-    show_walks(b"5: 4 4 5, 4 4 5, 4 4 3, 4 4095 3, 4 5 4", board, marks);
+    show_walks(rt, b"5: 4 4 5, 4 4 5, 4 4 3, 4 4095 3, 4 5 4", board, marks)?;
     marks[0] = 7;
-    show_walks(b"3: 2 2 1, 2 2 1, 1 1 0", board, marks);
+    show_walks(rt, b"3: 2 2 1, 2 2 1, 1 1 0", board, marks)
 }
 
 // 1 before 16, 16 before 2, and 2 of the board and of the marks; nothing is flipped.
-fn show_refusals(board: &[u16; 4095], marks: &mut [u16; 4095]) {
+fn show_refusals(rt: &impl Print, board: &[u16; 4095], marks: &mut [u16; 4095]) -> io::Result<()> {
     show_walks(
+        rt,
         b"4: 0 0 0, 4096 0 0, 6144 0 0, 65535 4095 4095",
         board,
         marks,
-    );
-    show_walks(b"3: 6 0 0, 3 4095 4095, 4095 4095 4095", board, marks);
-    show_walks(b"3: 4 3 4095, 4 4095 2, 1 0 4095", board, marks);
+    )?;
+    show_walks(rt, b"3: 6 0 0, 3 4095 4095, 4095 4095 4095", board, marks)?;
+    show_walks(rt, b"3: 4 3 4095, 4 4095 2, 1 0 4095", board, marks)?;
     show_walks(
+        rt,
         b"3: 2048 2048 2046, 2048 2047 2047, 2048 2048 2047",
         board,
         marks,
-    );
+    )
 }
 
 fn numbers() -> [u16; 4095] {
     [0u16; 4095]
 }
 
-fn main() {
+fn main(rt: HostRuntime) -> io::Result<()> {
     let mut board = numbers();
     let mut marks = numbers();
     name_leaves(&mut board);
-    show_engines(&board, &mut marks);
-    show_marks(&board, &mut marks);
-    show_refusals(&board, &mut marks);
+    show_engines(&rt, &board, &mut marks)?;
+    show_marks(&rt, &board, &mut marks)?;
+    show_refusals(&rt, &board, &mut marks)
 }

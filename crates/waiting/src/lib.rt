@@ -1,4 +1,6 @@
 // The waiting list, a lent run of numbers: taking an order, leaving its answer, fetching it, emptying the list. What an order does is not known here.
+#![tactic(auto)]
+
 ghost use Rattle.std.specs.Prelude.{◌≡◌, ◌+◌, ◌≤◌, ◌<◌, length};
 ghost use Rattle.waiting.specs.Layout as layout;
 ghost use Rattle.waiting.specs.Promises as promises;
@@ -13,7 +15,7 @@ pub const PLACES: usize = 64;
 const LAST_TICKET: u64 = 18446744073709551615;
 
 // A change that is asked for. Which kinds there are is for those who carry it out.
-#[derive(Drop)]
+#[derive(Clone, Copy)]
 pub struct Order {
     pub kind: u16,
     pub name: u16,
@@ -21,28 +23,28 @@ pub struct Order {
 }
 
 // What an order was answered.
-#[derive(Drop)]
+#[derive(Clone, Copy)]
 pub struct Outcome {
     pub number: u64,
     pub value: u64,
 }
 
 // How many answers and orders a list has.
-#[derive(Drop)]
+#[derive(Clone, Copy)]
 pub struct Tally {
     pub answers: usize,
     pub orders: usize,
 }
 
 // What becomes of an order that is to wait: its ticket, or no place for it.
-#[derive(Drop)]
+#[derive(Clone, Copy)]
 pub enum Taking {
     Waiting(u64),
     Queue,
 }
 
 // What the list knows of a ticket: the place of its answer, that its order waits, or nothing.
-#[derive(Drop)]
+#[derive(Clone, Copy)]
 enum Known {
     Answer(usize),
     Order,
@@ -50,7 +52,7 @@ enum Known {
 }
 
 // The answer of fetch: what the order was answered, that it waits, or no such ticket.
-#[derive(Drop)]
+#[derive(Clone, Copy)]
 pub enum Fetching {
     Answer { number: u64, value: u64 },
     Waits(u64),

@@ -15,10 +15,12 @@
 //     save, and read N of the first N bytes that were saved
 //
 // Any other line is a remark.
+#![tactic(auto)]
+
 use calls::Drive;
-use libc::STDIN_FILENO;
+use std::io;
 use telling::answers::{tell_checked, tell_served};
-use telling::reading::{letter_at, line_end, long_at, number_at, record_of};
+use telling::reading::{letter_at, line_end, long_at, number_at, read_text, record_of, text_room};
 use telling::stores::{
     fill, fill_list, put, put_byte, put_list, within, within_bytes, within_list,
 };
@@ -27,7 +29,7 @@ use telling_orders::{tell_fetching, tell_ordered, tell_saved};
 use waiting::Order;
 
 // The record, how many entries of the board's store and how many numbers of the list's are lent.
-#[derive(Drop)]
+#[derive(Clone, Copy)]
 struct State {
     drive: Drive,
     board: usize,
@@ -38,21 +40,27 @@ fn names() -> [u16; 4097] {
     [0u16; 4097]
 }
 
-fn rounds(d: Drive, board: &[u16], shown: usize) -> Drive {
+fn rounds(rt: &impl Print, d: Drive, board: &[u16], shown: usize) -> io::Result<Drive> {
     let mut output = names();
-    let after = tell_checked(d.round(board, &mut output));
-    say_entries(&output, 0, shown);
-    after
+    let after = tell_checked(rt, d.round(board, &mut output))?;
+    say_entries(rt, &output, 0, shown)?;
+    Ok(after)
 }
 
-fn fetches(d: Drive, list: &mut [u64], ticket: u64) -> Drive {
-    tell_fetching(waiting::fetch(list, ticket));
-    d
+fn fetches(rt: &impl Print, d: Drive, list: &mut [u64], ticket: u64) -> io::Result<Drive> {
+    tell_fetching(rt, waiting::fetch(list, ticket))?;
+    Ok(d)
 }
 
-fn reads(sheet: &[u8], n: usize, board: &mut [u16], list: &mut [u64]) -> Drive {
+fn reads(
+    rt: &impl Print,
+    sheet: &[u8],
+    n: usize,
+    board: &mut [u16],
+    list: &mut [u64],
+) -> io::Result<Drive> {
     let bytes = within_bytes(n, sheet);
-    tell_checked(orders::read(&sheet[..bytes], board, list))
+    tell_checked(rt, orders::read(&sheet[..bytes], board, list))
 }
 
 // The change of any kind that a line gives.
@@ -65,50 +73,59 @@ fn order_of(line: &[u8]) -> Order {
 }
 
 // Makes the call that a line stands for.
-fn call(d: Drive, line: &[u8], board: &mut [u16], list: &mut [u64], sheet: &mut [u8]) -> Drive {
+fn call(
+    rt: &impl Print,
+    d: Drive,
+    line: &[u8],
+    board: &mut [u16],
+    list: &mut [u64],
+    sheet: &mut [u8],
+) -> io::Result<Drive> {
     let a = number_at(line, 0);
     match letter_at(line, 2) {
-        b'e' => tell_checked(orders::open(a, board, list)),
-        b'd' => tell_ordered(orders::add(d, board, list, a, number_at(line, 1))),
-        b'm' => tell_ordered(orders::remove(d, board, list, a)),
-        b'y' => tell_ordered(orders::change(d, board, list, order_of(line))),
-        b'o' => tell_served(orders::slot(d, board, list)),
-        b't' => fetches(d, list, long_at(line, 0)),
-        b'u' => rounds(d, board, a as usize),
-        b'v' => tell_saved(sheets::save(d, board, sheet)),
-        _ => reads(sheet, a as usize, board, list),
+        b'e' => tell_checked(rt, orders::open(a, board, list)),
+        b'd' => tell_ordered(rt, orders::add(d, board, list, a, number_at(line, 1))),
+        b'm' => tell_ordered(rt, orders::remove(d, board, list, a)),
+        b'y' => tell_ordered(rt, orders::change(d, board, list, order_of(line))),
+        b'o' => tell_served(rt, orders::slot(d, board, list)),
+        b't' => fetches(rt, d, list, long_at(line, 0)),
+        b'u' => rounds(rt, d, board, a as usize),
+        b'v' => tell_saved(rt, sheets::save(d, board, sheet)),
+        _ => reads(rt, sheet, a as usize, board, list),
     }
 }
 
 // Carries out a line that stands for a call.
 fn carry_out(
+    rt: &impl Print,
     s: State,
     line: &[u8],
     board: &mut [u16],
     list: &mut [u64],
     sheet: &mut [u8],
-) -> State {
-    say(b":");
+) -> io::Result<State> {
+    say(rt, b":")?;
     let m = within(s.board, board);
     let n = within_list(s.list, list);
     let d = s.drive;
-    let after = call(d, line, &mut board[..m], &mut list[..n], sheet);
-    say_record(after);
-    State {
+    let after = call(rt, d, line, &mut board[..m], &mut list[..n], sheet)?;
+    say_record(rt, after)?;
+    Ok(State {
         drive: after,
         board: m,
         list: n,
-    }
+    })
 }
 
 // Carries out a line that stands for none.
 fn arrange(
+    rt: &impl Print,
     mut s: State,
     line: &[u8],
     board: &mut [u16],
     list: &mut [u64],
     sheet: &mut [u8],
-) -> State {
+) -> io::Result<State> {
     let at = number_at(line, 0) as usize;
     let x = number_at(line, 1);
     match letter_at(line, 2) {
@@ -125,30 +142,43 @@ fn arrange(
         b'g' => put_list(list, at, long_at(line, 1)),
         b'r' => put_byte(sheet, at, (x % 256) as u8),
         b'w' => {
-            say(b":");
-            say_entries(board, at, at + x as usize);
+            say(rt, b":")?;
+            say_entries(rt, board, at, at + x as usize)?;
         }
         b's' => {
-            say(b":");
-            say_list(list, at, at + x as usize);
+            say(rt, b":")?;
+            say_list(rt, list, at, at + x as usize)?;
         }
         _ => {}
     }
-    s
+    Ok(s)
 }
 
 // Carries out a line, which is told from others by its third letter.
-fn next(s: State, line: &[u8], board: &mut [u16], list: &mut [u64], sheet: &mut [u8]) -> State {
-    say(line);
+fn next(
+    rt: &impl Print,
+    s: State,
+    line: &[u8],
+    board: &mut [u16],
+    list: &mut [u64],
+    sheet: &mut [u8],
+) -> io::Result<State> {
+    say(rt, line)?;
     match letter_at(line, 2) {
         b'e' | b'd' | b'm' | b'y' | b'o' | b't' | b'u' | b'v' | b'a' => {
-            carry_out(s, line, board, list, sheet)
+            carry_out(rt, s, line, board, list, sheet)
         }
-        _ => arrange(s, line, board, list, sheet),
+        _ => arrange(rt, s, line, board, list, sheet),
     }
 }
 
-fn play(text: &[u8], board: &mut [u16], list: &mut [u64], sheet: &mut [u8]) {
+fn play(
+    rt: &impl Print,
+    text: &[u8],
+    board: &mut [u16],
+    list: &mut [u64],
+    sheet: &mut [u8],
+) -> io::Result<()> {
     let mut s = State {
         drive: Drive::new(0, 0),
         board: 0,
@@ -157,10 +187,11 @@ fn play(text: &[u8], board: &mut [u16], list: &mut [u64], sheet: &mut [u8]) {
     let mut at: usize = 0;
     while at < text.len() {
         let end = line_end(text, at);
-        s = next(s, &text[at..end], board, list, sheet);
-        end_line();
+        s = next(rt, s, &text[at..end], board, list, sheet)?;
+        end_line(rt)?;
         at = end + 1;
     }
+    Ok(())
 }
 
 fn numbers() -> [u64; 300] {
@@ -171,11 +202,11 @@ fn bytes() -> [u8; 2048] {
     [0u8; 2048]
 }
 
-fn main() {
-    let mut text = io::large_buffer();
-    let n = io::read_full(STDIN_FILENO, &mut text);
+fn main(rt: HostRuntime) -> io::Result<()> {
+    let mut text = text_room();
+    let n = read_text(&rt, &mut text)?;
     let mut board = names();
     let mut list = numbers();
     let mut sheet = bytes();
-    play(&text[..n], &mut board, &mut list, &mut sheet);
+    play(&rt, &text[..n], &mut board, &mut list, &mut sheet)
 }

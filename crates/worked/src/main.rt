@@ -10,57 +10,87 @@
 //     round N M     lends an output of N entries of 99, and shows its first M afterwards
 //
 // Any other line is a remark.
+#![tactic(auto)]
+
 use calls::Drive;
-use libc::STDIN_FILENO;
+use std::io;
 use telling::answers::{tell_changed, tell_checked, tell_reported, tell_served};
-use telling::reading::{letter_at, line_end, number_at, record_of};
+use telling::reading::{letter_at, line_end, number_at, read_text, record_of, text_room};
 use telling::stores::{fill, put, within};
 use telling::{end_line, say, say_entries, say_record};
 
 // The record, and how many entries of the store are lent.
-#[derive(Drop)]
+#[derive(Clone, Copy)]
 struct State {
     drive: Drive,
     lent: usize,
 }
 
 // A round to the first n entries of an output of 99s.
-fn rounds(d: Drive, board: &[u16], output: &mut [u16], n: usize) -> Drive {
+fn rounds(
+    rt: &impl Print,
+    d: Drive,
+    board: &[u16],
+    output: &mut [u16],
+    n: usize,
+) -> io::Result<Drive> {
     fill(output, 99);
     let lent = within(n, output);
-    tell_checked(d.round(board, &mut output[..lent]))
+    tell_checked(rt, d.round(board, &mut output[..lent]))
 }
 
 // Makes the call that a letter stands for.
-fn call(d: Drive, letter: u8, a: u16, b: u16, board: &mut [u16], output: &mut [u16]) -> Drive {
+fn call(
+    rt: &impl Print,
+    d: Drive,
+    letter: u8,
+    a: u16,
+    b: u16,
+    board: &mut [u16],
+    output: &mut [u16],
+) -> io::Result<Drive> {
     match letter {
-        b'e' => tell_checked(Drive::open(a, board)),
-        b'd' => tell_changed(d.add(board, a, b)),
-        b'm' => tell_changed(d.remove(board, a)),
-        b'y' => tell_checked(d.fresh(board)),
-        b'o' => tell_served(d.slot(board)),
-        b'p' => tell_reported(d.report(board, a)),
-        _ => rounds(d, board, output, a as usize),
+        b'e' => tell_checked(rt, Drive::open(a, board)),
+        b'd' => tell_changed(rt, d.add(board, a, b)),
+        b'm' => tell_changed(rt, d.remove(board, a)),
+        b'y' => tell_checked(rt, d.fresh(board)),
+        b'o' => tell_served(rt, d.slot(board)),
+        b'p' => tell_reported(rt, d.report(board, a)),
+        _ => rounds(rt, d, board, output, a as usize),
     }
 }
 
 // Carries out a line that stands for a call.
-fn carry_out(s: State, line: &[u8], store: &mut [u16], output: &mut [u16]) -> State {
+fn carry_out(
+    rt: &impl Print,
+    s: State,
+    line: &[u8],
+    store: &mut [u16],
+    output: &mut [u16],
+) -> io::Result<State> {
     let letter = letter_at(line, 2);
     let b = number_at(line, 1);
     let lent = within(s.lent, store);
     let d = s.drive;
-    say(b":");
-    let after = call(d, letter, number_at(line, 0), b, &mut store[..lent], output);
-    say_record(after);
+    say(rt, b":")?;
+    let after = call(
+        rt,
+        d,
+        letter,
+        number_at(line, 0),
+        b,
+        &mut store[..lent],
+        output,
+    )?;
+    say_record(rt, after)?;
     if letter == b'u' {
-        say_entries(output, 0, b as usize);
+        say_entries(rt, output, 0, b as usize)?;
     }
-    State { drive: after, lent }
+    Ok(State { drive: after, lent })
 }
 
 // Carries out a line that stands for none.
-fn arrange(mut s: State, line: &[u8], store: &mut [u16]) -> State {
+fn arrange(rt: &impl Print, mut s: State, line: &[u8], store: &mut [u16]) -> io::Result<State> {
     let at = number_at(line, 0) as usize;
     let x = number_at(line, 1);
     match letter_at(line, 2) {
@@ -70,27 +100,33 @@ fn arrange(mut s: State, line: &[u8], store: &mut [u16]) -> State {
         }
         b't' => put(store, at, x),
         b'a' => {
-            say(b":");
-            say_entries(store, at, at + x as usize);
+            say(rt, b":")?;
+            say_entries(rt, store, at, at + x as usize)?;
         }
         b'l' => {
             s.drive = record_of(line);
         }
         _ => {}
     }
-    s
+    Ok(s)
 }
 
 // Carries out a line, which is told from others by its third letter.
-fn next(s: State, line: &[u8], store: &mut [u16], output: &mut [u16]) -> State {
-    say(line);
+fn next(
+    rt: &impl Print,
+    s: State,
+    line: &[u8],
+    store: &mut [u16],
+    output: &mut [u16],
+) -> io::Result<State> {
+    say(rt, line)?;
     match letter_at(line, 2) {
-        b'e' | b'd' | b'm' | b'y' | b'o' | b'p' | b'u' => carry_out(s, line, store, output),
-        _ => arrange(s, line, store),
+        b'e' | b'd' | b'm' | b'y' | b'o' | b'p' | b'u' => carry_out(rt, s, line, store, output),
+        _ => arrange(rt, s, line, store),
     }
 }
 
-fn play(text: &[u8], store: &mut [u16], output: &mut [u16]) {
+fn play(rt: &impl Print, text: &[u8], store: &mut [u16], output: &mut [u16]) -> io::Result<()> {
     let mut s = State {
         drive: Drive::new(0, 0),
         lent: 0,
@@ -98,20 +134,21 @@ fn play(text: &[u8], store: &mut [u16], output: &mut [u16]) {
     let mut at: usize = 0;
     while at < text.len() {
         let end = line_end(text, at);
-        s = next(s, &text[at..end], store, output);
-        end_line();
+        s = next(rt, s, &text[at..end], store, output)?;
+        end_line(rt)?;
         at = end + 1;
     }
+    Ok(())
 }
 
 fn entries() -> [u16; 4097] {
     [0u16; 4097]
 }
 
-fn main() {
-    let mut text = io::large_buffer();
-    let n = io::read_full(STDIN_FILENO, &mut text);
+fn main(rt: HostRuntime) -> io::Result<()> {
+    let mut text = text_room();
+    let n = read_text(&rt, &mut text)?;
     let mut store = entries();
     let mut output = entries();
-    play(&text[..n], &mut store, &mut output);
+    play(&rt, &text[..n], &mut store, &mut output)
 }

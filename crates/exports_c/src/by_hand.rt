@@ -1,0 +1,71 @@
+// The functions that C and Rust link that are lent structs: a table of changes, of which the loop alone stands here, and
+// the slot on a record where that lies; each for two drives, and with the tables of over-allocated streams.
+ghost use Rattle.shares.specs.States.{lent};
+ghost use Rattle.batch.specs.Promises as promises;
+ghost use Rattle.share_batch.specs.Promises as share_promises;
+ghost use Rattle.exports.specs.Promises.{ServesHere};
+ghost use Rattle.exports.specs.Serving.{ShareServesHere};
+
+use batch::Entry;
+use calls::Drive;
+use replies::Said;
+
+// Carries out a table of changes from first to last, each as the single call would, and writes its answer beside it. A refused entry does not stop the rest.
+#[unsafe(no_mangle)]
+pub extern "C" fn mandrozsi_pair_batch(
+    own: Drive,
+    other: Drive,
+    board: &mut [u16],
+    list: &mut [u64],
+    table: &mut [Entry],
+) -> Drive
+    ensures { promises.Batches own other board.old list.old table.old result board.new list.new table.new }
+{
+    exports::by_hand::mandrozsi_pair_batch(own, other, board, list, table)
+}
+
+// The same with the tables of over-allocated streams.
+#[unsafe(no_mangle)]
+pub extern "C" fn mandrozsi_share_batch(
+    own: Drive,
+    other: Drive,
+    board: &mut [u16],
+    list: &mut [u64],
+    rates: &mut [u16],
+    owed: &mut [u16],
+    owed_other: &mut [u16],
+    table: &mut [Entry],
+) -> Drive
+    ensures { share_promises.Batches own other (lent board.old rates.old owed.old owed_other.old) list.old table.old result (lent board.new rates.new owed.new owed_other.new) list.new table.new }
+{
+    exports::by_hand::mandrozsi_share_batch(own, other, board, list, rates, owed, owed_other, table)
+}
+
+// Serves a slot of the own drive on its record where that lies: it is moved on there, and left as it was where the slot is refused.
+#[unsafe(no_mangle)]
+pub extern "C" fn mandrozsi_pair_slot_here(
+    own: &mut Drive,
+    other: Drive,
+    board: &mut [u16],
+    list: &mut [u64],
+) -> Said
+    ensures { ServesHere own.old other board.old list.old result own.new board.new list.new }
+{
+    exports::by_hand::mandrozsi_pair_slot_here(own, other, board, list)
+}
+
+// The same with the tables of over-allocated streams.
+#[unsafe(no_mangle)]
+pub extern "C" fn mandrozsi_share_slot_here(
+    own: &mut Drive,
+    other: Drive,
+    board: &mut [u16],
+    list: &mut [u64],
+    rates: &mut [u16],
+    owed: &mut [u16],
+    owed_other: &mut [u16],
+) -> Said
+    ensures { ShareServesHere own.old other (lent board.old rates.old owed.old owed_other.old) list.old result own.new (lent board.new rates.new owed.new owed_other.new) list.new }
+{
+    exports::by_hand::mandrozsi_share_slot_here(own, other, board, list, rates, owed, owed_other)
+}

@@ -1,0 +1,10 @@
+use Rattle.std.proofs.Common.{◌≡◌, ◌-◌, ◌≤◌, length, drop}
+use Rattle.lines.specs.Grammar.{numeral}
+use Rattle.lines.proofs.Spelling.{read_on}
+use Rattle.lines.proofs.reading.number.Given as goal
+
+abbrev pub invariant-loop-i : goal.invariant-loop-i
+invariant-loop-i l = (l.i ≤ length l.word) × (l.value ≤ l.limit) × (numeral l.most l.limit l.word ≡ read_on l.limit l.value (drop l.i l.word))
+
+abbrev pub decreases-loop-i : goal.decreases-loop-i
+decreases-loop-i l = length l.word - l.i

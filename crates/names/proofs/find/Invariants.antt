@@ -1,0 +1,8 @@
+use Rattle.names.proofs.Walks.{Walking}
+use Rattle.names.proofs.find.Given as goal
+
+abbrev pub invariant-loop-n : goal.invariant-loop-n
+invariant-loop-n l = Walking l.cells l.x l.n
+
+abbrev pub decreases-loop-n : goal.decreases-loop-n
+decreases-loop-n l = l.n

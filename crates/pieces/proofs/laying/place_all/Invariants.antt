@@ -1,0 +1,12 @@
+use Rattle.std.proofs.Common.{◌≡◌, length, take}
+use Rattle.names.specs.Table.{number_under}
+use Rattle.pieces.specs.Fresh.{all_placed, ranks, Placeables}
+use Rattle.pieces.proofs.laying.place_all.Given as goal
+
+abbrev pub invariant-loop-w : goal.invariant-loop-w
+invariant-loop-w l =
+    (length l.board ≡ length l.initial.board) × Placeables l.c l.board (ranks (number_under l.sizes) (take l.n l.names) l.w)
+    × (all_placed l.c l.board (ranks (number_under l.sizes) (take l.n l.names) l.w) ≡ all_placed l.c l.initial.board (ranks (number_under l.sizes) (take l.n l.names) l.c))
+
+abbrev pub decreases-loop-w : goal.decreases-loop-w
+decreases-loop-w l = l.w

@@ -1,0 +1,8 @@
+use Rattle.std.proofs.Common.{◌-◌, ◌≤◌}
+use Rattle.sheet_table.proofs.show_rows.Given as goal
+
+abbrev pub invariant-loop-i : goal.invariant-loop-i
+invariant-loop-i g l = l.i ≤ 12288
+
+abbrev pub decreases-loop-i : goal.decreases-loop-i
+decreases-loop-i g l = 12288 - l.i

@@ -1,0 +1,11 @@
+use Rattle.std.proofs.Common.{◌≡◌, ◌≤◌, ◌-◌, ◌*◌, length}
+use lib.Seq.{sets}
+use Rattle.sheets.specs.Blocks.{values_from}
+use Rattle.sheets.specs.Sheet.{leaf_in}
+use Rattle.sheets.proofs.leaves.read_block.Given as goal
+
+abbrev pub invariant-loop-i : goal.invariant-loop-i
+invariant-loop-i l = (l.i ≤ l.n) × (length l.board ≡ length l.initial.board) × (l.board ≡ sets l.initial.board (253 * l.b) (values_from (leaf_in l.sheet) (253 * l.b) l.i))
+
+abbrev pub decreases-loop-i : goal.decreases-loop-i
+decreases-loop-i l = l.n - l.i
