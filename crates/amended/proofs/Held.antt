@@ -18,7 +18,7 @@ use Rattle.demands.specs.Histories.{Act, Add, Remove, State, after, log}
 use Rattle.pieces.specs.Streams.{Stream, held_of, total}
 use Rattle.demands.specs.Holdings.{held_from}
 use Rattle.demands.specs.Rounds.{names_from, FullRound, in_a_row, Near, bound}
-use Rattle.demands.proofs.Laws.{Sound, reached, moves, never_damaged, room, room_told, others_pass, full_names, served_round, served_fair}
+use Rattle.demands.proofs.Laws.{Sound, reached, moves, never_damaged, room, room_told, others_pass, full_names, served_round_lem, served_fair}
 use Rattle.waiting.specs.declared.Order.{Order}
 use Rattle.orders.specs.Results.{add_order, carried_answer}
 use Rattle.amended.specs.Carried.{acts_of, in_turn}
@@ -83,6 +83,6 @@ module _ (u : State) (hs : List Stream) (is : Sound u hs) where
   unfolding slot_names
   round_serves_lem later full served e = record {
     order = e ∙ full_names u later is.valid full;
-    often = λ x named. ap (occurrences x) e ∙ served_round u hs is later full x named;
+    often = λ x named. ap (occurrences x) e ∙ served_round_lem u hs is later full x named;
     fair = λ x w i t h some within. rw e (served_fair u hs is later full x w i t h some within);
   }

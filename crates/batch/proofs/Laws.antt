@@ -59,9 +59,9 @@ module _ (a b : Drive) (B L : List ℕ) where
   carry_removes e k p = rw k (rw p.0 refl, p.2, p.3)
 
   -- and for any other kind nothing: it is answered 7.
-  pub unknown_kind : (e : Entry) → (e.kind ≡ 1 → ⊥) → (e.kind ≡ 2 → ⊥) → Carries a b B L e (record { drive = a; entry = answering e 7 0 }) B L
+  pub unknown_kind_lem : (e : Entry) → (e.kind ≡ 1 → ⊥) → (e.kind ≡ 2 → ⊥) → Carries a b B L e (record { drive = a; entry = answering e 7 0 }) B L
   unfolding carried ordered ordered_board ordered_list
-  unknown_kind e j k = let f = ne_eqb e.kind 1 j in let g = ne_eqb e.kind 2 k in (rw (f, g) refl, rw (f, g) refl, rw (f, g) refl)
+  unknown_kind_lem e j k = let f = ne_eqb e.kind 1 j in let g = ne_eqb e.kind 2 k in (rw (f, g) refl, rw (f, g) refl, rw (f, g) refl)
 
 -- ---- the single calls, in that order
 
@@ -72,12 +72,12 @@ unfolding noted_all
 batch_singles b {a} {B = B} {L} ends = batch_none a b B L
 batch_singles b {a} {B = B} {L} (adds {e = e} {T} k p q) = batch_next a b B L e T (carry_adds a b B L e k p) ∙ ap (before _) (batch_singles b q)
 batch_singles b {a} {B = B} {L} (removes {e = e} {T} k p q) = batch_next a b B L e T (carry_removes a b B L e k p) ∙ ap (before _) (batch_singles b q)
-batch_singles b {a} {B = B} {L} (skips {e = e} {T} j k q) = batch_next a b B L e T (unknown_kind a b B L e j k) ∙ ap (before _) (batch_singles b q)
+batch_singles b {a} {B = B} {L} (skips {e = e} {T} j k q) = batch_next a b B L e T (unknown_kind_lem a b B L e j k) ∙ ap (before _) (batch_singles b q)
 
 -- ---- there are such calls for every table: a promise that can be kept can be kept again and again
 
-pub by_kind : (e : Entry) {P : Type 0} → (e.kind ≡ 1 → P) → (e.kind ≡ 2 → P) → ((e.kind ≡ 1 → ⊥) → (e.kind ≡ 2 → ⊥) → P) → P
-by_kind e f g h = by_bool (eqb e.kind 1)
+pub by_kind_lem : (e : Entry) {P : Type 0} → (e.kind ≡ 1 → P) → (e.kind ≡ 2 → P) → ((e.kind ≡ 1 → ⊥) → (e.kind ≡ 2 → ⊥) → P) → P
+by_kind_lem e f g h = by_bool (eqb e.kind 1)
     (λ t. f (eqb-true e.kind 1 t))
     (λ n. by_bool (eqb e.kind 2) (λ t. g (eqb-true e.kind 2 t)) (λ m. h (eqb-false e.kind 1 n) (eqb-false e.kind 2 m)))
 
@@ -87,7 +87,7 @@ Leads P d B L T = (s : Drive) × (E : List ℕ) × (F : List ℕ) × (ss : List 
 module _ (P : Promise) (kept : (d : Drive) (B L : List ℕ) (o : Order) → (r : Ordered) × (E : List ℕ) × (F : List ℕ) × P d B L o r E F) where
   leads : (d : Drive) (B L : List ℕ) (T : List Entry) → Leads P d B L T
   leads d B L [] = (d, B, L, [], ends)
-  leads d B L (e ∷ T) = by_kind e
+  leads d B L (e ∷ T) = by_kind_lem e
       (λ k. let c = kept d B L (add_order e.name e.weight) in let q = leads c.0.drive c.1 c.2 T in (q.0, q.1, q.2, _, adds k c.3 q.4))
       (λ k. let c = kept d B L (remove_order e.name) in let q = leads c.0.drive c.1 c.2 T in (q.0, q.1, q.2, _, removes k c.3 q.4))
       (λ j k. let q = leads d B L T in (q.0, q.1, q.2, _, skips j k q.4))
@@ -131,7 +131,7 @@ questions_stay a b B L (e ∷ T) = ap (λ (qs : List Order). question e ∷ qs) 
 
 carry_record : (a b : Drive) (B L : List ℕ) (e : Entry) → (carried a b B L e).drive ≡ a
 unfolding carried ordered
-carry_record a b B L e = by_kind e (λ k. rw (eq-eqb e.kind 1 k) refl) (λ k. rw k refl) (λ j k. rw (ne_eqb e.kind 1 j, ne_eqb e.kind 2 k) refl)
+carry_record a b B L e = by_kind_lem e (λ k. rw (eq-eqb e.kind 1 k) refl) (λ k. rw k refl) (λ j k. rw (ne_eqb e.kind 1 j, ne_eqb e.kind 2 k) refl)
 
 -- No change moves a record, so the record that comes back is the one that was passed.
 pub record_stays : (a b : Drive) (B L : List ℕ) (T : List Entry) → (batch_of a b B L T).drive ≡ a
@@ -150,10 +150,10 @@ module _ (a b : Drive) (B L : List ℕ) (e : Entry) (some : (carried a b B L e).
       (sym f.1 ∙ q.1, sym (f.2 (λ z. none (sym n ∙ z))) ∙ q.2)
 
   alone : (B ≡ ordered_board a b B L e) × (L ≡ ordered_list a b B L e)
-  alone = by_kind e
+  alone = by_kind_lem e
       (λ k. let o = add_order e.name e.weight in left_alone o (changes a b B L o) (carry_adds a b B L e k (changes a b B L o)))
       (λ k. let o = remove_order e.name in left_alone o (changes a b B L o) (carry_removes a b B L e k (changes a b B L o)))
-      (λ j k. let q = unknown_kind a b B L e j k in (q.1, q.2))
+      (λ j k. let q = unknown_kind_lem a b B L e j k in (q.1, q.2))
 
   -- An entry whose number is neither 0 nor 13 leaves the record, the board and the list as they were,
   pub carry_refused : Carries a b B L e (record { drive = a; entry = (carried a b B L e).entry }) B L

@@ -1,5 +1,5 @@
 // A table of changes for two drives on one board: each entry is carried out as the single call does it, and its answer is written beside it. The loop over a
-// table stands where it is exported.
+// table stands in `exports`.
 #![tactic(auto)]
 
 ghost use Rattle.std.specs.Prelude.{◌≡◌};

@@ -49,7 +49,7 @@ pub use Rattle.calls.proofs.Writing.{idle_opened}
 -- ---- spacing: the longest wait from one serve to the next (document 02, request No. 1)
 
 -- Over the names of any round: it is the largest distance around the circle of the round; the round is no more than as many times the spacing as the name is
--- served; the spacing is at most the round, and all of it just where the name is served once. `gaps-..` say how a walk over the slots finds it.
+-- served; the spacing is at most the round, and all of it just where the name is served once. `gaps_..` say how a walk over the slots finds it.
 pub use Rattle.calls.proofs.Waits.{spacing_circle, spacing_least, spacing_whole, spacing_once, gaps_served, gaps_passed, gaps_within, gaps_around}
 -- On a board: a round serves each leaf of a name once, and twice C slots in a row are two rounds; a name with a run of 2 ^ l leaves waits C / 2 ^ l at most, rounded up.
 pub use Rattle.calls.proofs.Spaced.{leaves_times, names_times, two_rounds, run_wait}

@@ -39,7 +39,7 @@ use Rattle.demands.proofs.Numbering.{moves}
 use Rattle.demands.proofs.Told.{full_number, full_over, number_counted, certificate_at, one_slot, full_told, told_full}
 use Rattle.demands.proofs.Stretching.{slots_still, still_board, served_power, served_still}
 use Rattle.demands.proofs.Laying.{fresh_adds, fresh_equal, fresh_rounds}
-use Rattle.demands.proofs.Standing.{never_damaged, midround, fresh_passes, others_pass, room, room_told, room_asked, served_round, served_fair}
+use Rattle.demands.proofs.Standing.{never_damaged, midround, fresh_passes, others_pass, room, room_told, room_asked, served_round_lem, served_fair}
 
 -- ---- Demand 1
 
@@ -241,7 +241,7 @@ module _ (C : ℕ) (B : List ℕ) (may : Openable C B) (acts : List Act) where
 
   -- In each full round a name is served as often as the weight that it holds at the round's first slot.
   pub demand_3_round : (rest : List Act) → FullRound (reach C B acts) rest → (x : ℕ) → (x ≡ 0 → ⊥) → occurrences x (names_from (reach C B acts) rest) ≡ held_of x (held C B acts)
-  demand_3_round = served_round (reach C B acts) (held C B acts) r
+  demand_3_round = served_round_lem (reach C B acts) (held C B acts) r
 
   -- In any t successive slots of that round a stream of weight w is served s times, and C s and w t differ by less than m C + w h,
   pub demand_3_fair : (rest : List Act) → FullRound (reach C B acts) rest → (x w i t : ℕ) → held_of x (held C B acts) ≡ w → zero < w → i + t ≤ C

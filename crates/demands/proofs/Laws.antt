@@ -20,7 +20,7 @@ pub use Rattle.demands.proofs.Reached.{Sound, opened, step, reached, always, sam
 pub use Rattle.demands.proofs.ServedNames.{names_append, full_names, slots_length, slots_full}
 pub use Rattle.demands.proofs.Numbering.{drive_after, certificate_of, drive_moves, moves, slot_certifies, certificates_length}
 pub use Rattle.demands.proofs.Told.{full_number, full_over, number_counted, certificate_at, one_slot, full_told, told_full}
-pub use Rattle.demands.proofs.Standing.{never_damaged, midround, fresh_passes, others_pass, room, room_told, room_asked, held_weight, served_round, served_fair}
+pub use Rattle.demands.proofs.Standing.{never_damaged, midround, fresh_passes, others_pass, room, room_told, room_asked, held_weight, served_round_lem, served_fair}
 pub use Rattle.demands.proofs.Stretching.{slot_still, slots_still, still_board, served_power, served_still}
 pub use Rattle.demands.proofs.Laying.{opened_adds, fresh_adds, fresh_equal, fresh_rounds}
 pub use Rattle.demands.proofs.Demands.{fresh_layout, fresh_again, fresh_done, fresh_held, fresh_leaves, fresh_round, demand_3_undamaged, demand_3_slot, demand_3_midround, demand_3_within, demand_3_room, demand_3_ask, demand_3_others, demand_3_held, demand_3_pieces, demand_3_idle, demand_3_full, demand_3_round, demand_3_fair, demand_3_demanded, record_kept, round_one_number, round_counted, slot_certified, certificate_once, round_told, told_round, still_slots, still_kept, power_fair, still_fair}

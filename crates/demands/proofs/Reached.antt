@@ -13,7 +13,7 @@ use Rattle.pieces.specs.Board.{good, weight}
 use Rattle.pieces.specs.Placing.{Placeable, placed}
 use Rattle.pieces.specs.Tidying.{Removable, removed}
 use Rattle.pieces.specs.Fresh.{fresh}
-use Rattle.pieces.proofs.Laws.{opened_good, placed_good, placed_weight, placed_idle, placed_others, placed_length, removed_good, removed_name, removed_idle, removed_others, removed_length, fresh_length, fresh_good, fresh_weights}
+use Rattle.pieces.proofs.Laws.{opened_good, placed_good, placed_weight, placed_idle, placed_others, placed_length, removed_good, removed_name, removed_idle_lem, removed_others, removed_length, fresh_length, fresh_good, fresh_weights}
 use Rattle.calls.specs.declared.Check.{Check}
 use Rattle.calls.specs.declared.Check.TheVariants.{Clear, Refused}
 use Rattle.calls.specs.Records.{drive_at}
@@ -97,7 +97,7 @@ module _ (s : State) (hs : List Stream) (is : Sound s hs) where
 
   cleared : (x : ℕ) → Removable C B x → Sound (state_at s.drive (removed C B x)) (held_after (Remove x) hs)
   cleared x m =
-      let i = removed_idle C B x m in
+      let i = removed_idle_lem C B x m in
       let j = is.idle in
       let k = without_total x hs in
       let l = is.names x m.named in

@@ -116,8 +116,8 @@ module _ (s : State) (hs : List Stream) (is : Sound s hs) where
 
   module _ (rest : List Act) (full : FullRound s rest) where
     -- a full round serves a name as often as it holds
-    pub served_round : (x : ℕ) → (x ≡ 0 → ⊥) → occurrences x (names_from s rest) ≡ held_of x hs
-    served_round x named = rw (full_names s rest is.valid full)
+    pub served_round_lem : (x : ℕ) → (x ≡ 0 → ⊥) → occurrences x (names_from s rest) ≡ held_of x hs
+    served_round_lem x named = rw (full_names s rest is.valid full)
         (times_on B x (leaves_from C 1 C) ∙ stream_round C B x is.valid.at.some is.valid.at.few ∙ is.names x named)
 
     -- and slots in a row of it serve the name its share

@@ -1,4 +1,4 @@
-// The functions that C and Rust link that are lent structs: a table of changes, of which the loop alone stands here, and
+// The functions that C and Rust get that are lent structs: a table of changes, of which the loop alone stands here, and
 // the slot on a record where that lies; each for two drives, and with the tables of over-allocated streams.
 ghost use Rattle.shares.specs.States.{lent};
 ghost use Rattle.batch.specs.Promises as promises;
@@ -13,8 +13,7 @@ use calls::Drive;
 use replies::Said;
 
 // Carries out a table of changes from first to last, each as the single call would, and writes its answer beside it. A refused entry does not stop the rest.
-#[unsafe(no_mangle)]
-pub extern "C" fn mandrozsi_pair_batch(
+pub fn mandrozsi_pair_batch(
     own: Drive,
     other: Drive,
     board: &mut [u16],
@@ -35,8 +34,7 @@ pub extern "C" fn mandrozsi_pair_batch(
 }
 
 // The same with the tables of over-allocated streams.
-#[unsafe(no_mangle)]
-pub extern "C" fn mandrozsi_share_batch(
+pub fn mandrozsi_share_batch(
     own: Drive,
     other: Drive,
     board: &mut [u16],
@@ -62,8 +60,7 @@ pub extern "C" fn mandrozsi_share_batch(
 }
 
 // Serves a slot of the own drive on its record where that lies: it is moved on there, and left as it was where the slot is refused.
-#[unsafe(no_mangle)]
-pub extern "C" fn mandrozsi_pair_slot_here(
+pub fn mandrozsi_pair_slot_here(
     own: &mut Drive,
     other: Drive,
     board: &mut [u16],
@@ -77,8 +74,7 @@ pub extern "C" fn mandrozsi_pair_slot_here(
 }
 
 // The same with the tables of over-allocated streams.
-#[unsafe(no_mangle)]
-pub extern "C" fn mandrozsi_share_slot_here(
+pub fn mandrozsi_share_slot_here(
     own: &mut Drive,
     other: Drive,
     board: &mut [u16],

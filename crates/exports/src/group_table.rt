@@ -1,4 +1,4 @@
-// The functions that C and Rust link for a neighbour's group table, without and with the tables of over-allocated streams.
+// The functions that C and Rust get for a neighbour's group table, without and with the tables of over-allocated streams.
 ghost use Rattle.std.specs.Prelude.{◌≡◌};
 ghost use Rattle.groups.specs.Results as results;
 ghost use Rattle.shares.specs.States.{lent};
@@ -8,8 +8,7 @@ ghost use Rattle.exports.specs.Tables.{ShareImports};
 use replies::Reply;
 
 // Imports a group table: its round to the start of the output, its streams to an opened board. The list is emptied.
-#[unsafe(no_mangle)]
-pub extern "C" fn mandrozsi_import(
+pub fn mandrozsi_import(
     capacity: u16,
     starts: &[u16],
     names: &[u16],
@@ -23,8 +22,7 @@ pub extern "C" fn mandrozsi_import(
 }
 
 // Imports a group table where the tables of over-allocated streams are lent: they are cleared.
-#[unsafe(no_mangle)]
-pub extern "C" fn mandrozsi_share_import(
+pub fn mandrozsi_share_import(
     capacity: u16,
     starts: &[u16],
     names: &[u16],

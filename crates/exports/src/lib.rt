@@ -1,7 +1,7 @@
-// The functions that C and Rust link: every call on a slot board with its waiting list, and save and read; in `pair` those for two drives on one board, in
-// `sharing` those with the tables of over-allocated streams, in `by_hand` those of both that are lent structs, in `engine` the tree walk, in `listing` the sheets that
-// list pieces, in `neighbour` a group table. A slice is a pointer and then a length.
-// A library exports nothing to C: each function is exported under its name by `exports_c`, whose body is the call.
+// The functions that C and Rust get: every call on a slot board with its waiting list, and save and read; in `pair` those for two drives on one board, in
+// `sharing` those with the tables of over-allocated streams, in `by_hand` those of both that are lent structs, in `tree_walk` the tree walk, in `piece_sheets` the
+// sheets that list pieces, in `group_table` a group table. A slice is a pointer and then a length.
+// `exports_c` exports each under its name: its body there is the call.
 #![tactic(auto)]
 
 ghost use Rattle.std.specs.Prelude.{◌≡◌, length};
@@ -23,16 +23,14 @@ pub mod sharing;
 pub mod tree_walk;
 
 // Opens a board, and empties the list.
-#[unsafe(no_mangle)]
-pub extern "C" fn mandrozsi_open(capacity: u16, board: &mut [u16], list: &mut [u64]) -> Reply
+pub fn mandrozsi_open(capacity: u16, board: &mut [u16], list: &mut [u64]) -> Reply
     ensures { (result ≡ reply (order_results.opened capacity board.old (length list.old)).drive (order_results.opened_answer capacity board.old (length list.old))) × (board.new ≡ order_results.opened_board capacity board.old (length list.old)) × (list.new ≡ order_results.opened_list capacity board.old list.old) }
 {
     replies::of_checked(orders::open(capacity, board, list))
 }
 
 // Admits a stream, at once or by an order that waits: the idle leaves left, or the ticket.
-#[unsafe(no_mangle)]
-pub extern "C" fn mandrozsi_add(
+pub fn mandrozsi_add(
     drive: Drive,
     board: &mut [u16],
     list: &mut [u64],
@@ -45,13 +43,7 @@ pub extern "C" fn mandrozsi_add(
 }
 
 // Removes a stream, at once or by an order that waits: the idle leaves left, or the ticket.
-#[unsafe(no_mangle)]
-pub extern "C" fn mandrozsi_remove(
-    drive: Drive,
-    board: &mut [u16],
-    list: &mut [u64],
-    name: u16,
-) -> Reply
+pub fn mandrozsi_remove(drive: Drive, board: &mut [u16], list: &mut [u64], name: u16) -> Reply
     ensures { (result ≡ reply drive (order_results.changed_answer drive board.old list.old (order_results.remove_order name))) × (board.new ≡ order_results.changed_board drive board.old list.old (order_results.remove_order name)) × (list.new ≡ order_results.changed_list drive board.old list.old (order_results.remove_order name)) }
 {
     replies::of_ordered(orders::remove(drive, board, list, name))
@@ -59,56 +51,49 @@ pub extern "C" fn mandrozsi_remove(
 
 // Serves a slot: the name, the leaf, the terms passed over, the number of its round; the record moves on. Where a round starts the orders that wait are
 // carried out first.
-#[unsafe(no_mangle)]
-pub extern "C" fn mandrozsi_slot(drive: Drive, board: &mut [u16], list: &mut [u64]) -> Reply
+pub fn mandrozsi_slot(drive: Drive, board: &mut [u16], list: &mut [u64]) -> Reply
     ensures { (result ≡ reply (order_results.served drive board.old list.old).drive (order_results.served_answer drive board.old list.old)) × (board.new ≡ order_results.served_board drive board.old list.old) × (list.new ≡ order_results.served_list drive board.old list.old) }
 {
     replies::of_served(orders::slot(drive, board, list))
 }
 
 // Writes the names of a full round to the start of the output.
-#[unsafe(no_mangle)]
-pub extern "C" fn mandrozsi_round(drive: Drive, board: &[u16], output: &mut [u16]) -> Reply
+pub fn mandrozsi_round(drive: Drive, board: &[u16], output: &mut [u16]) -> Reply
     ensures { (result ≡ reply drive (results.rounded_answer drive board.now output.old)) × (output.new ≡ results.rounded_output drive board.now output.old) }
 {
     replies::of_checked(drive.round(board, output))
 }
 
 // Reports on a stream: weight, number of pieces, spacing.
-#[unsafe(no_mangle)]
-pub extern "C" fn mandrozsi_report(drive: Drive, board: &[u16], name: u16) -> Reply
+pub fn mandrozsi_report(drive: Drive, board: &[u16], name: u16) -> Reply
     ensures { result ≡ reply drive (results.reported_answer drive board.now name) }
 {
     replies::of_reported(drive.report(board, name))
 }
 
 // Saves a board: its sheet at the start of the output, and how many bytes that is.
-#[unsafe(no_mangle)]
-pub extern "C" fn mandrozsi_save(drive: Drive, board: &[u16], output: &mut [u8]) -> Reply
+pub fn mandrozsi_save(drive: Drive, board: &[u16], output: &mut [u8]) -> Reply
     ensures { (result ≡ reply drive (sheet_results.saved_answer drive board.now output.old)) × (output.new ≡ sheet_results.saved_output drive board.now output.old) }
 {
     replies::of_saved(sheets::save(drive, board, output))
 }
 
 // Reads a sheet: the leaves of a board, and a record at the start of a round. The list is emptied.
-#[unsafe(no_mangle)]
-pub extern "C" fn mandrozsi_read(sheet: &[u8], board: &mut [u16], list: &mut [u64]) -> Reply
+pub fn mandrozsi_read(sheet: &[u8], board: &mut [u16], list: &mut [u64]) -> Reply
     ensures { (result ≡ reply (order_results.loaded sheet.now board.old (length list.old)).drive (order_results.loaded_answer sheet.now board.old (length list.old))) × (board.new ≡ order_results.loaded_board sheet.now board.old (length list.old)) × (list.new ≡ order_results.loaded_list sheet.now board.old list.old) }
 {
     replies::of_checked(orders::read(sheet, board, list))
 }
 
 // Fetches the answer of an order by its ticket.
-#[unsafe(no_mangle)]
-pub extern "C" fn mandrozsi_fetch(list: &mut [u64], ticket: u64) -> Said
+pub fn mandrozsi_fetch(list: &mut [u64], ticket: u64) -> Said
     ensures { (result ≡ said_of (fetching_answer (fetched list.old ticket))) × (list.new ≡ fetched_list list.old ticket) }
 {
     replies::said_fetching(waiting::fetch(list, ticket))
 }
 
 // Lays the board out afresh, by falling weight, then rising name. The orders that wait stay on the list, which is not lent.
-#[unsafe(no_mangle)]
-pub extern "C" fn mandrozsi_fresh(drive: Drive, board: &mut [u16]) -> Reply
+pub fn mandrozsi_fresh(drive: Drive, board: &mut [u16]) -> Reply
     ensures { (result ≡ reply drive (results.refreshed_answer drive board.old)) × (board.new ≡ results.refreshed_board drive board.old) }
 {
     replies::of_checked(drive.fresh(board))

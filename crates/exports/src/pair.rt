@@ -1,4 +1,4 @@
-// The functions that C and Rust link for two drives on one board: `own` is the record of the drive that the call is for and comes back, `other` is the other
+// The functions that C and Rust get for two drives on one board: `own` is the record of the drive that the call is for and comes back, `other` is the other
 // drive's. Open, read and fetch are those of one drive.
 ghost use Rattle.std.specs.Prelude.{◌≡◌};
 ghost use Rattle.orders.specs.Results.{add_order, remove_order};
@@ -9,8 +9,7 @@ use calls::Drive;
 use replies::Reply;
 
 // Admits a stream, at once where both drives are at the start of a round and no order waits, or by an order that waits.
-#[unsafe(no_mangle)]
-pub extern "C" fn mandrozsi_pair_add(
+pub fn mandrozsi_pair_add(
     own: Drive,
     other: Drive,
     board: &mut [u16],
@@ -24,8 +23,7 @@ pub extern "C" fn mandrozsi_pair_add(
 }
 
 // Removes a stream, likewise.
-#[unsafe(no_mangle)]
-pub extern "C" fn mandrozsi_pair_remove(
+pub fn mandrozsi_pair_remove(
     own: Drive,
     other: Drive,
     board: &mut [u16],
@@ -38,55 +36,35 @@ pub extern "C" fn mandrozsi_pair_remove(
 }
 
 // Serves a slot of the own drive, whose record moves on. Where both drives are at the start of a round the orders that wait are carried out first.
-#[unsafe(no_mangle)]
-pub extern "C" fn mandrozsi_pair_slot(
-    own: Drive,
-    other: Drive,
-    board: &mut [u16],
-    list: &mut [u64],
-) -> Reply
+pub fn mandrozsi_pair_slot(own: Drive, other: Drive, board: &mut [u16], list: &mut [u64]) -> Reply
     ensures { (result ≡ reply (results.served own other board.old list.old).drive (results.served_answer own other board.old list.old)) × (board.new ≡ results.served_board own other board.old list.old) × (list.new ≡ results.served_list own other board.old list.old) }
 {
     replies::of_served(drives::slot(own, other, board, list))
 }
 
 // Writes the names of a full round to the start of the output.
-#[unsafe(no_mangle)]
-pub extern "C" fn mandrozsi_pair_round(
-    own: Drive,
-    other: Drive,
-    board: &[u16],
-    output: &mut [u16],
-) -> Reply
+pub fn mandrozsi_pair_round(own: Drive, other: Drive, board: &[u16], output: &mut [u16]) -> Reply
     ensures { (result ≡ reply own (results.rounded_answer own other board.now output.old)) × (output.new ≡ results.rounded_output own other board.now output.old) }
 {
     replies::of_checked(drives::round(own, other, board, output))
 }
 
 // Reports on a stream: weight, number of pieces, spacing.
-#[unsafe(no_mangle)]
-pub extern "C" fn mandrozsi_pair_report(own: Drive, other: Drive, board: &[u16], name: u16) -> Reply
+pub fn mandrozsi_pair_report(own: Drive, other: Drive, board: &[u16], name: u16) -> Reply
     ensures { result ≡ reply own (results.reported_answer own other board.now name) }
 {
     replies::of_reported(drives::report(own, other, board, name))
 }
 
 // Saves a board, where both drives are at the start of a round.
-#[unsafe(no_mangle)]
-pub extern "C" fn mandrozsi_pair_save(
-    own: Drive,
-    other: Drive,
-    board: &[u16],
-    output: &mut [u8],
-) -> Reply
+pub fn mandrozsi_pair_save(own: Drive, other: Drive, board: &[u16], output: &mut [u8]) -> Reply
     ensures { (result ≡ reply own (results.saved_answer own other board.now output.old)) × (output.new ≡ results.saved_output own other board.now output.old) }
 {
     replies::of_saved(drives::save(own, other, board, output))
 }
 
 // Lays the board out afresh, where both drives are at the start of a round.
-#[unsafe(no_mangle)]
-pub extern "C" fn mandrozsi_pair_fresh(own: Drive, other: Drive, board: &mut [u16]) -> Reply
+pub fn mandrozsi_pair_fresh(own: Drive, other: Drive, board: &mut [u16]) -> Reply
     ensures { (result ≡ reply own (results.refreshed_answer own other board.old)) × (board.new ≡ results.refreshed_board own other board.old) }
 {
     replies::of_checked(drives::fresh(own, other, board))

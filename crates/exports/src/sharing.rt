@@ -1,4 +1,4 @@
-// The functions that C and Rust link for over-allocated streams: the calls of two drives that are lent the tables of r and of each drive's deficits. A single
+// The functions that C and Rust get for over-allocated streams: the calls of two drives that are lent the tables of r and of each drive's deficits. A single
 // drive has its record in both places.
 ghost use Rattle.orders.specs.Results.{add_order, remove_order};
 ghost use Rattle.shares.specs.States.{lent};
@@ -10,8 +10,7 @@ use calls::Drive;
 use replies::Reply;
 
 // Opens a board, clears the tables, and empties the list.
-#[unsafe(no_mangle)]
-pub extern "C" fn mandrozsi_share_open(
+pub fn mandrozsi_share_open(
     capacity: u16,
     board: &mut [u16],
     list: &mut [u64],
@@ -25,8 +24,7 @@ pub extern "C" fn mandrozsi_share_open(
 }
 
 // Reads a sheet, clears the tables, and empties the list.
-#[unsafe(no_mangle)]
-pub extern "C" fn mandrozsi_share_read(
+pub fn mandrozsi_share_read(
     sheet: &[u8],
     board: &mut [u16],
     list: &mut [u64],
@@ -40,8 +38,7 @@ pub extern "C" fn mandrozsi_share_read(
 }
 
 // Admits a stream, at once or by an order that waits.
-#[unsafe(no_mangle)]
-pub extern "C" fn mandrozsi_share_add(
+pub fn mandrozsi_share_add(
     own: Drive,
     other: Drive,
     board: &mut [u16],
@@ -60,8 +57,7 @@ pub extern "C" fn mandrozsi_share_add(
 }
 
 // Admits an over-allocated stream, at once or by an order that waits.
-#[unsafe(no_mangle)]
-pub extern "C" fn mandrozsi_share_over(
+pub fn mandrozsi_share_over(
     own: Drive,
     other: Drive,
     board: &mut [u16],
@@ -80,8 +76,7 @@ pub extern "C" fn mandrozsi_share_over(
 }
 
 // Removes a stream, at once or by an order that waits; the tables follow the streams that move.
-#[unsafe(no_mangle)]
-pub extern "C" fn mandrozsi_share_remove(
+pub fn mandrozsi_share_remove(
     own: Drive,
     other: Drive,
     board: &mut [u16],
@@ -98,8 +93,7 @@ pub extern "C" fn mandrozsi_share_remove(
 
 // Serves a slot of the own drive, whose record moves on: an over-allocated stream takes its turn by the deficits of that drive. Where both drives are at the start
 // of a round the orders that wait are carried out first.
-#[unsafe(no_mangle)]
-pub extern "C" fn mandrozsi_share_slot(
+pub fn mandrozsi_share_slot(
     own: Drive,
     other: Drive,
     board: &mut [u16],
@@ -114,8 +108,7 @@ pub extern "C" fn mandrozsi_share_slot(
 }
 
 // Writes the names of a full round, every deficit taken as 0.
-#[unsafe(no_mangle)]
-pub extern "C" fn mandrozsi_share_round(
+pub fn mandrozsi_share_round(
     own: Drive,
     other: Drive,
     board: &[u16],
@@ -132,8 +125,7 @@ pub extern "C" fn mandrozsi_share_round(
 }
 
 // Reports on a stream: r of one that is over-allocated.
-#[unsafe(no_mangle)]
-pub extern "C" fn mandrozsi_share_report(
+pub fn mandrozsi_share_report(
     own: Drive,
     other: Drive,
     board: &[u16],
@@ -150,8 +142,7 @@ pub extern "C" fn mandrozsi_share_report(
 }
 
 // Saves a board that holds no over-allocated stream.
-#[unsafe(no_mangle)]
-pub extern "C" fn mandrozsi_share_save(
+pub fn mandrozsi_share_save(
     own: Drive,
     other: Drive,
     board: &[u16],
@@ -168,8 +159,7 @@ pub extern "C" fn mandrozsi_share_save(
 }
 
 // Lays the board out afresh; the tables follow.
-#[unsafe(no_mangle)]
-pub extern "C" fn mandrozsi_share_fresh(
+pub fn mandrozsi_share_fresh(
     own: Drive,
     other: Drive,
     board: &mut [u16],
@@ -183,8 +173,7 @@ pub extern "C" fn mandrozsi_share_fresh(
 }
 
 // Reads a sheet of pieces, at the position that it has, clears the tables, and empties the list.
-#[unsafe(no_mangle)]
-pub extern "C" fn mandrozsi_share_read_pieces(
+pub fn mandrozsi_share_read_pieces(
     sheet: &[u8],
     board: &mut [u16],
     list: &mut [u64],
@@ -200,8 +189,7 @@ pub extern "C" fn mandrozsi_share_read_pieces(
 }
 
 // Saves a board that holds no over-allocated stream by its pieces, where both drives are at one position.
-#[unsafe(no_mangle)]
-pub extern "C" fn mandrozsi_share_save_pieces(
+pub fn mandrozsi_share_save_pieces(
     own: Drive,
     other: Drive,
     board: &[u16],

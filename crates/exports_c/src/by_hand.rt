@@ -1,5 +1,5 @@
-// The functions that C and Rust link that are lent structs: a table of changes, of which the loop alone stands here, and
-// the slot on a record where that lies; each for two drives, and with the tables of over-allocated streams.
+// The functions that C and Rust link that are lent structs: a table of changes, and the slot on a record where that lies; each for two drives, and with
+// the tables of over-allocated streams.
 ghost use Rattle.shares.specs.States.{lent};
 ghost use Rattle.batch.specs.Promises as promises;
 ghost use Rattle.share_batch.specs.Promises as share_promises;

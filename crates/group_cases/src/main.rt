@@ -142,7 +142,7 @@ fn count_in(table: &[u16], i: usize) -> usize
     wide_entry(entry(table, i))
 }
 
-// The case that begins at an entry; where the next one begins.
+// The case that begins at an entry; where the next one begins. `Err` just where a write failed; the table is only read.
 fn show_case(rt: &impl Print, table: &[u16], at: usize) -> io::Result<usize>
     requires { at ≤ 512 }
     ensures { IfOk result (λ end. end ≤ at + 131076) }
@@ -164,7 +164,7 @@ fn show_case(rt: &impl Print, table: &[u16], at: usize) -> io::Result<usize>
     Ok(end)
 }
 
-// The cases: how many there are, and then each. Where they end.
+// The cases: how many there are, and then each. Where they end; `Err` just where a write failed.
 fn show_cases(rt: &impl Print, table: &[u16]) -> io::Result<usize>
     ensures { IfOk result (λ end. end ≤ 131588) }
 {

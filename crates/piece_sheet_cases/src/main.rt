@@ -311,7 +311,8 @@ fn run_row(
     }
 }
 
-// The rows of one kind: how many there are, and then each. The place after them.
+// The rows of one kind: how many there are, and then each. The place after them; `Err` just where a write failed, and then board and sheets are as the calls
+// before it left them.
 fn run_rows(
     rt: &impl Print,
     kind: usize,

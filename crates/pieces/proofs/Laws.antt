@@ -133,8 +133,8 @@ module _ (C : ℕ) (B : List ℕ) (x : ℕ) (may : Removable C B x) where
   removed_name = alike (removed C B x) x ∙ removing.removed_name C B x may.long may.named was_good
 
   -- The idle leaves gain its weight.
-  pub removed_idle : weight C (removed C B x) 0 ≡ weight C B 0 + weight C B x
-  removed_idle = rw (alike (removed C B x) 0, alike B 0, alike B x) (removing.removed_idle C B x may.long may.named was_good)
+  pub removed_idle_lem : weight C (removed C B x) 0 ≡ weight C B 0 + weight C B x
+  removed_idle_lem = rw (alike (removed C B x) 0, alike B 0, alike B x) (removing.removed_idle C B x may.long may.named was_good)
 
   -- Every other stream keeps its weight.
   pub removed_others : (y : ℕ) → (y ≡ 0 → ⊥) → (y ≡ x → ⊥) → weight C (removed C B x) y ≡ weight C B y

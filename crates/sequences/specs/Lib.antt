@@ -1,4 +1,4 @@
--- Sequences and Scanning are source document 001's own sequences and round; Board and Slots are document 01's slot order, and Serving counts what it serves.
+-- Sequences and Scanning are source document 001's own sequences and round; SlotOrder and Slots are document 01's slot order, and Serving counts what it serves.
 pub mod Sequences
 pub mod SlotOrder
 pub mod Slots

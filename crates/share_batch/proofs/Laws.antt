@@ -66,9 +66,9 @@ module _ (a b : Drive) (s : BoardTables) (L : List ℕ) where
   carry_overs e k p = rw k (rw p.0 refl, p.2, p.3)
 
   -- and for any other kind nothing: it is answered 7.
-  pub unknown_kind : (e : Entry) → (e.kind ≡ 1 → ⊥) → (e.kind ≡ 2 → ⊥) → (e.kind ≡ 3 → ⊥) → Carries a b s L e (record { drive = a; entry = answering e 7 0 }) s L
+  pub unknown_kind_lem : (e : Entry) → (e.kind ≡ 1 → ⊥) → (e.kind ≡ 2 → ⊥) → (e.kind ≡ 3 → ⊥) → Carries a b s L e (record { drive = a; entry = answering e 7 0 }) s L
   unfolding carried ordered ordered_state ordered_list
-  unknown_kind e i j k =
+  unknown_kind_lem e i j k =
       let f = ne_eqb e.kind 1 i in let g = ne_eqb e.kind 2 j in let h = ne_eqb e.kind 3 k in
       (rw (f, g, h) refl, rw (f, g, h) refl, rw (f, g, h) refl)
 
@@ -82,12 +82,12 @@ batch_singles b {a} {s = s} {L = L} ends = batch_none a b s L
 batch_singles b {a} {s = s} {L = L} (adds {e = e} {T} k p q) = batch_next a b s L e T (carry_adds a b s L e k p) ∙ ap (before _) (batch_singles b q)
 batch_singles b {a} {s = s} {L = L} (removes {e = e} {T} k p q) = batch_next a b s L e T (carry_removes a b s L e k p) ∙ ap (before _) (batch_singles b q)
 batch_singles b {a} {s = s} {L = L} (overs {e = e} {T} k p q) = batch_next a b s L e T (carry_overs a b s L e k p) ∙ ap (before _) (batch_singles b q)
-batch_singles b {a} {s = s} {L = L} (skips {e = e} {T} i j k q) = batch_next a b s L e T (unknown_kind a b s L e i j k) ∙ ap (before _) (batch_singles b q)
+batch_singles b {a} {s = s} {L = L} (skips {e = e} {T} i j k q) = batch_next a b s L e T (unknown_kind_lem a b s L e i j k) ∙ ap (before _) (batch_singles b q)
 
 -- ---- there are such calls for every table
 
-by_kind : (e : Entry) {P : Type 0} → (e.kind ≡ 1 → P) → (e.kind ≡ 2 → P) → (e.kind ≡ 3 → P) → ((e.kind ≡ 1 → ⊥) → (e.kind ≡ 2 → ⊥) → (e.kind ≡ 3 → ⊥) → P) → P
-by_kind e f g h n = batch.by_kind e f g (λ i j. by_bool (eqb e.kind 3) (λ t. h (eqb-true e.kind 3 t)) (λ k. n i j (eqb-false e.kind 3 k)))
+by_kind_lem : (e : Entry) {P : Type 0} → (e.kind ≡ 1 → P) → (e.kind ≡ 2 → P) → (e.kind ≡ 3 → P) → ((e.kind ≡ 1 → ⊥) → (e.kind ≡ 2 → ⊥) → (e.kind ≡ 3 → ⊥) → P) → P
+by_kind_lem e f g h n = batch.by_kind_lem e f g (λ i j. by_bool (eqb e.kind 3) (λ t. h (eqb-true e.kind 3 t)) (λ k. n i j (eqb-false e.kind 3 k)))
 
 abbrev Leads : Drive → Drive → BoardTables → List ℕ → List Entry → Type 0
 Leads a b s L T = (x : Drive) × (u : BoardTables) × (F : List ℕ) × (ss : List Answer) × Singles (λ d. Orders d b) a s L T x u F ss
@@ -97,7 +97,7 @@ changes a b s L o = (refl, change_says (way_of a b s L o) a s.board L (board_ord
 
 pub singles_are : (a b : Drive) (s : BoardTables) (L : List ℕ) (T : List Entry) → Leads a b s L T
 singles_are a b s L [] = (a, s, L, [], ends)
-singles_are a b s L (e ∷ T) = by_kind e
+singles_are a b s L (e ∷ T) = by_kind_lem e
     (λ k. let o = add_order e.name e.weight in let q = singles_are (changed a b s L o).drive b (changed_state a b s L o) (changed_list a b s L o) T in (q.0, q.1, q.2, _, adds k (changes a b s L o) q.4))
     (λ k. let o = remove_order e.name in let q = singles_are (changed a b s L o).drive b (changed_state a b s L o) (changed_list a b s L o) T in (q.0, q.1, q.2, _, removes k (changes a b s L o) q.4))
     (λ k. let o = over_order e.name e.weight in let q = singles_are (changed a b s L o).drive b (changed_state a b s L o) (changed_list a b s L o) T in (q.0, q.1, q.2, _, overs k (changes a b s L o) q.4))
@@ -112,7 +112,7 @@ questions_stay a b s L (e ∷ T) = ap (λ (qs : List Order). question e ∷ qs) 
 
 carry_record : (a b : Drive) (s : BoardTables) (L : List ℕ) (e : Entry) → (carried a b s L e).drive ≡ a
 unfolding carried ordered
-carry_record a b s L e = by_kind e
+carry_record a b s L e = by_kind_lem e
     (λ k. rw (eq-eqb e.kind 1 k) refl)
     (λ k. rw k refl)
     (λ k. rw k refl)
@@ -135,11 +135,11 @@ module _ (a b : Drive) (s : BoardTables) (L : List ℕ) (e : Entry) (some : (car
       (sym f.1 ∙ q.1, sym (f.2 (λ z. none (sym n ∙ z))) ∙ q.2)
 
   alone : (s ≡ ordered_state a b s L e) × (L ≡ ordered_list a b s L e)
-  alone = by_kind e
+  alone = by_kind_lem e
       (λ k. let o = add_order e.name e.weight in left_alone o (changes a b s L o) (carry_adds a b s L e k (changes a b s L o)))
       (λ k. let o = remove_order e.name in left_alone o (changes a b s L o) (carry_removes a b s L e k (changes a b s L o)))
       (λ k. let o = over_order e.name e.weight in left_alone o (changes a b s L o) (carry_overs a b s L e k (changes a b s L o)))
-      (λ i j k. let q = unknown_kind a b s L e i j k in (q.1, q.2))
+      (λ i j k. let q = unknown_kind_lem a b s L e i j k in (q.1, q.2))
 
   -- An entry whose number is neither 0 nor 13 leaves the record, the board, the tables and the list as they were,
   pub carry_refused : Carries a b s L e (record { drive = a; entry = (carried a b s L e).entry }) s L

@@ -1,5 +1,5 @@
 // A table of changes for two drives with the tables of over-allocated streams: each entry is carried out as the single call does it, and its answer is written
-// beside it. The kinds are those of `batch` and one more. The loop over a table stands where it is exported.
+// beside it. The kinds are those of `batch` and one more. The loop over a table stands in `exports`.
 #![tactic(auto)]
 
 ghost use Rattle.std.specs.Prelude.{◌≡◌};

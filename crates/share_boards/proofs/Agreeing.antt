@@ -45,7 +45,7 @@ pub record Bare (C : ℕ) (s : BoardTables) : Type 0 where
   pub other : Zero C s.other
 
 cleared_bare : (C : ℕ) (s : BoardTables) → Bare C s → (D : List ℕ) → opening.cleared C D s ≡ lent D s.rates s.owed s.other
-cleared_bare C s n D = rw (plain_cleared C s.rates n.rates, plain_cleared C s.owed n.owed, plain_cleared C s.other n.other) refl
+cleared_bare C s n D = simp (plain_cleared C s.rates n.rates, plain_cleared C s.owed n.owed, plain_cleared C s.other n.other)
 
 either_lent : (k : Check) (D : List ℕ) (s : BoardTables) → if_clear k (lent D s.rates s.owed s.other) s ≡ lent (if_clear k D s.board) s.rates s.owed s.other
 either_lent Clear D s = refl

@@ -252,7 +252,8 @@ fn run_row(
     }
 }
 
-// The rows of one kind: how many there are, and then each. The place after them.
+// The rows of one kind: how many there are, and then each. The place after them; `Err` just where a write failed, and then board and sheet are as the calls
+// before it left them.
 fn run_rows(
     rt: &impl Print,
     kind: usize,
@@ -276,7 +277,7 @@ fn run_rows(
     Ok(next)
 }
 
-// The answer of read where one byte is changed by so much.
+// The answer of read where one byte is changed by so much. The byte is put back before anything is printed, so that a failed write leaves the sheet whole.
 fn show_byte(
     rt: &impl Print,
     sheet: &mut [u8; 9216],

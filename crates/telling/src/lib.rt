@@ -1,5 +1,6 @@
 // What the programs that are run and compared share: the numbers and lines of their input (`reading`), the stores that they lend (`stores`), and what they
 // print: numbers and lists here, what a call said in `answers`. No contract can say what is written; each function is proved to end and to stay in bounds.
+// A function that prints answers `Err` just where a write failed, with std's error, after what it had printed until then; it has changed nothing of its caller's.
 #![tactic(auto)]
 
 pub mod answers;

@@ -14,7 +14,7 @@ pub fn text_room() -> [u8; 65536]
 }
 
 // Reads standard input until `text` is full or the input ends, and says how many bytes it put at the start of `text`.
-// Where a read fails, what was read before it stands at the start of `text`, and nothing else of `text` is known.
+// `Err` comes just where a read fails, with std's error: what was read before stands at the start of `text`, and nothing else of `text` is known.
 pub fn read_text(rt: &impl Input, text: &mut [u8]) -> io::Result<usize>
     ensures { IfOk result (λ n. n ≤ length text.new) }
 {

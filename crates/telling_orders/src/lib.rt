@@ -1,4 +1,5 @@
 // What the calls of `sheets`, of the waiting list and of `orders` said, printed as `telling` prints the answers of `calls`.
+// Each answers `Err` just where a write failed.
 #![tactic(auto)]
 
 use calls::Drive;

@@ -1,4 +1,4 @@
--- `console_loop::hear_block` meets its contract. The loop keeps the lengths of what is lent, and follows from the start; what is left of the block falls. Assumes nothing.
+-- `console_loop::hear_block` meets its contract. Assumes nothing.
 use Rattle.std.proofs.Common.{arith, length-take, length-drop}
 use Rattle.console_loop.proofs.Hearing.{at_first, fed_follows, then}
 use Rattle.console_loop.proofs.hear_block.Goals as goal

@@ -1,3 +1,4 @@
+-- The loop of `console_loop::hear_block` keeps the lengths of what is lent, and follows from the start; what is left of the block falls. Assumes nothing.
 use Rattle.std.proofs.Common.{◌≡◌, ◌-◌, ◌≤◌, length}
 use Rattle.console_loop.specs.Serving.{Follows}
 use Rattle.console_loop.proofs.hear_block.Given as goal

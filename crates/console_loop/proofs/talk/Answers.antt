@@ -1,4 +1,4 @@
--- `console_loop::talk` meets its contract. The loop keeps the lengths of what is lent, and follows from the start; the turns left fall. Assumes nothing.
+-- `console_loop::talk` meets its contract. Assumes nothing.
 use Rattle.std.proofs.Common.{arith}
 use Rattle.console_loop.proofs.Hearing.{at_first, then, follows_served}
 use Rattle.console_loop.proofs.talk.Goals as goal

@@ -1,3 +1,4 @@
+-- The loop of `console_loop::talk` keeps the lengths of what is lent, and follows from the start; the turns left fall. Assumes nothing.
 use Rattle.std.proofs.Common.{◌≡◌, length}
 use Rattle.lines.specs.Sessions.{started}
 use Rattle.console_loop.specs.Serving.{Follows}

@@ -1,3 +1,4 @@
+-- What the loop of `drive_cases::play` keeps, and what falls at each turn. Assumes nothing.
 use Rattle.std.proofs.Common.{length, ◌-◌, ◌≡◌}
 use Rattle.drive_cases.proofs.play.Given as goal
 

@@ -1,3 +1,4 @@
+-- What the loop of `group_cases::count_up` keeps, and what falls at each turn. Assumes nothing.
 use Rattle.std.proofs.Common.{length, ◌-◌, ◌≡◌, ◌≤◌}
 use Rattle.group_cases.proofs.count_up.Given as goal
 

@@ -1,3 +1,4 @@
+-- What falls at each turn of the loop of `group_cases::order`. Assumes nothing.
 use Rattle.std.proofs.Common.{◌-◌}
 use Rattle.group_cases.proofs.order.Given as goal
 

@@ -1,3 +1,4 @@
+-- What the loop of `group_cases::show_cases` keeps, and what falls at each turn. Assumes nothing.
 use Rattle.std.proofs.Common.{◌-◌, ◌≤◌}
 use Rattle.group_cases.proofs.show_cases.Given as goal
 

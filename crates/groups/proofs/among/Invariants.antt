@@ -1,3 +1,4 @@
+-- What the loop of `groups::among` keeps, and what falls at each turn. Assumes nothing.
 use Rattle.std.proofs.Common.{◌≡◌, ◌-◌, ◌≤◌, eqb, get_or}
 use Rattle.groups.specs.Table.{any_from}
 use Rattle.groups.proofs.among.Given as goal

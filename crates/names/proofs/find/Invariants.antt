@@ -1,3 +1,4 @@
+-- What the loop of `names::find` keeps, and what falls at each turn. Assumes nothing.
 use Rattle.names.proofs.Walks.{Walking}
 use Rattle.names.proofs.find.Given as goal
 

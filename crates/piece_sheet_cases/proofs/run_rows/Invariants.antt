@@ -1,3 +1,4 @@
+-- What the loop of `piece_sheet_cases::run_rows` keeps, and what falls at each turn. Assumes nothing.
 use Rattle.std.proofs.Common.{◌*◌, ◌+◌, ◌-◌, ◌≤◌}
 use Rattle.piece_sheet_cases.proofs.run_rows.Given as goal
 

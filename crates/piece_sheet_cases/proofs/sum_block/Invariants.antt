@@ -1,3 +1,4 @@
+-- What the loop of `piece_sheet_cases::sum_block` keeps, and what falls at each turn. Assumes nothing.
 use Rattle.std.proofs.Common.{◌-◌, ◌<◌, ◌≤◌}
 use Rattle.piece_sheet_cases.proofs.sum_block.Given as goal
 

@@ -1,3 +1,4 @@
+-- What the loop of `pieces::count` keeps, and what falls at each turn. Assumes nothing.
 use Rattle.std.proofs.Common.{◌≡◌, ◌≤◌, ◌-◌}
 use Rattle.pieces.specs.Halving.{count_from}
 use Rattle.pieces.proofs.count.Given as goal

@@ -1,3 +1,4 @@
+-- What the loop of `pieces::fill` keeps, and what falls at each turn. Assumes nothing.
 use Rattle.std.proofs.Common.{◌≡◌, ◌≤◌, ◌-◌, length}
 use Rattle.pieces.specs.Placing as placing
 use Rattle.pieces.proofs.fill.Given as goal

@@ -1,3 +1,4 @@
+-- What the loop of `sheet_cases::count_leaves` keeps, and what falls at each turn. Assumes nothing.
 use Rattle.std.proofs.Common.{◌-◌, ◌≤◌}
 use Rattle.sheet_cases.proofs.count_leaves.Given as goal
 

@@ -1,3 +1,4 @@
+-- What the loop of `sheet_cases::make_board` keeps, and what falls at each turn. Assumes nothing.
 use Rattle.std.proofs.Common.{◌-◌, ◌≤◌}
 use Rattle.sheet_cases.proofs.make_board.Given as goal
 

@@ -1,3 +1,4 @@
+-- What the loop of `sheet_table::show_rows` keeps, and what falls at each turn. Assumes nothing.
 use Rattle.std.proofs.Common.{◌-◌, ◌≤◌}
 use Rattle.sheet_table.proofs.show_rows.Given as goal
 

@@ -1,3 +1,4 @@
+-- What falls at each turn of the loop of `telling::say_entries`. Assumes nothing.
 use Rattle.std.proofs.Common.{◌-◌}
 use Rattle.telling.proofs.say_entries.Given as goal
 

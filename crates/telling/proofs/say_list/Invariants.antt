@@ -1,3 +1,4 @@
+-- What falls at each turn of the loop of `telling::say_list`. Assumes nothing.
 use Rattle.std.proofs.Common.{◌-◌}
 use Rattle.telling.proofs.say_list.Given as goal
 

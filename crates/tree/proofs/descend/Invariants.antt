@@ -1,3 +1,4 @@
+-- What the loop of `tree::descend` keeps, and what falls at each turn. Assumes nothing.
 use Rattle.std.proofs.Common.{◌≡◌, suc, ◌*◌, ◌^◌, ◌≤◌, length}
 use Rattle.tree.specs.Marks.{node_from, marks_from}
 use Rattle.tree.proofs.descend.Given as goal

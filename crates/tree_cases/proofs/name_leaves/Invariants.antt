@@ -1,3 +1,4 @@
+-- What the loop of `tree_cases::name_leaves` keeps, and what falls at each turn. Assumes nothing.
 use Rattle.std.proofs.Common.{length, ◌-◌, ◌≡◌, ◌≤◌}
 use Rattle.tree_cases.proofs.name_leaves.Given as goal
 

@@ -1,3 +1,4 @@
+-- What the loop of `tree_cases::show_engines` keeps, and what falls at each turn. Assumes nothing.
 use Rattle.std.proofs.Common.{◌-◌, ◌≤◌}
 use Rattle.tree_cases.proofs.show_engines.Given as goal
 

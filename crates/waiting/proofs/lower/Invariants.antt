@@ -1,3 +1,4 @@
+-- What the loop of `waiting::lower` keeps, and what falls at each turn. Assumes nothing.
 use Rattle.std.proofs.Common.{◌≡◌, ◌+◌, ◌-◌, ◌≤◌, length}
 use Rattle.waiting.specs.Layout.{lowered}
 use Rattle.waiting.proofs.lower.Given as goal

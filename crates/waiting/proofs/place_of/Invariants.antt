@@ -1,3 +1,4 @@
+-- What the loop of `waiting::place_of` keeps, and what falls at each turn. Assumes nothing.
 use Rattle.std.proofs.Common.{◌≡◌, ◌-◌, ◌≤◌}
 use Rattle.waiting.specs.Layout.{found_from}
 use Rattle.waiting.proofs.place_of.Given as goal

@@ -1,3 +1,4 @@
+-- What the loop of `worked::play` keeps, and what falls at each turn. Assumes nothing.
 use Rattle.std.proofs.Common.{◌≡◌, ◌-◌, length}
 use Rattle.worked.proofs.play.Given as goal
 

@@ -1,3 +1,4 @@
+-- The loop of `console_loop::system::say`: what was taken of `out` never exceeds it, and the tries left fall. Assumes nothing.
 use Rattle.std.proofs.Common.{◌≤◌, length}
 use Rattle.console_loop.proofs.system.say.Given as goal
 

@@ -1,3 +1,4 @@
+-- What the loop of `exports::by_hand::mandrozsi_pair_batch` keeps, and what falls at each turn. Assumes nothing.
 use Rattle.std.proofs.Common.{◌-◌, length}
 use Rattle.batch.specs.Entries.{batch_of}
 use Rattle.exports.proofs.Turns.{Part}

@@ -1,3 +1,4 @@
+-- What the loop of `exports::by_hand::mandrozsi_share_batch` keeps, and what falls at each turn. Assumes nothing.
 use Rattle.std.proofs.Common.{◌-◌, length}
 use Rattle.shares.specs.States.{lent}
 use Rattle.share_batch.specs.Entries.{batch_of}

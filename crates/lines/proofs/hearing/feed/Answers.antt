@@ -1,5 +1,4 @@
--- `lines::hearing::feed` meets its contract. The loop keeps: the talk over what is left of the input, from the words that stand in the lent bytes, is
--- the talk asked for. Assumes nothing.
+-- `lines::hearing::feed` meets its contract. Assumes nothing.
 use Rattle.std.proofs.Common.{refl, ◌∙◌, ◌+◌, ◌≤◌, arith, length}
 use Rattle.lines.proofs.Talks.{talk_at, talk_end, talk_stops, talk_goes, bytes_go, answered}
 use Rattle.lines.proofs.hearing.feed.Goals as goal

@@ -1,3 +1,5 @@
+-- The loop of `lines::hearing::feed` keeps: the talk over what is left of the input, from the words that stand in the lent bytes, is the talk asked for.
+-- Assumes nothing.
 use Rattle.std.proofs.Common.{◌≡◌, ◌-◌, ◌≤◌, length, take, drop}
 use lib.Seq.{sets}
 use Rattle.lines.specs.Sessions.{talked, begun}

@@ -1,4 +1,4 @@
--- `lines::reading::find` meets its contract. The loop keeps: the place sought is as far past `i` as it is past the start of what is left. Assumes nothing.
+-- `lines::reading::find` meets its contract. Assumes nothing.
 use Rattle.std.proofs.Common.{add-one, arith}
 use Rattle.lines.proofs.Words.{place_here, place_past, place_end}
 use Rattle.lines.proofs.reading.find.Goals as goal

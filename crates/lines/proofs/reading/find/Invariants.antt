@@ -1,3 +1,4 @@
+-- The loop of `lines::reading::find` keeps: the place sought is as far past `i` as it is past the start of what is left. Assumes nothing.
 use Rattle.std.proofs.Common.{◌≡◌, ◌+◌, ◌-◌, ◌≤◌, length, drop}
 use Rattle.lines.specs.Grammar.{first_place}
 use Rattle.lines.proofs.reading.find.Given as goal

@@ -1,5 +1,4 @@
--- `lines::reading::number` meets its contract. The loop keeps: the word is the number that its digits so far and what is left of it give; the value
--- stays within the limit. Assumes nothing.
+-- `lines::reading::number` meets its contract. Assumes nothing.
 use Rattle.std.proofs.Common.{sym, ◌∙◌, add-one, arith}
 use Rattle.lines.proofs.Spelling.{numeral_empty, numeral_long, numeral_read, read_low, read_high, read_more, read_over, read_end}
 use Rattle.lines.proofs.reading.number.Goals as goal

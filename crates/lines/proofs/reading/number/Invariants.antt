@@ -1,3 +1,5 @@
+-- The loop of `lines::reading::number` keeps: the word is the number that its digits so far and what is left of it give; the value stays within the limit.
+-- Assumes nothing.
 use Rattle.std.proofs.Common.{◌≡◌, ◌-◌, ◌≤◌, length, drop}
 use Rattle.lines.specs.Grammar.{numeral}
 use Rattle.lines.proofs.Spelling.{read_on}

@@ -1,4 +1,4 @@
--- `lines::reading::same` meets its contract. The loop keeps: the words are the same where what is left of them is. Assumes nothing.
+-- `lines::reading::same` meets its contract. Assumes nothing.
 use Rattle.std.proofs.Common.{refl, sym, ◌∙◌, add-one, arith}
 use Rattle.general.proofs.Laws.{same_short}
 use Rattle.lines.proofs.Words.{same_next, same_differ, same_end}

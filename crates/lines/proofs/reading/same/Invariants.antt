@@ -1,3 +1,4 @@
+-- The loop of `lines::reading::same` keeps: the words are the same where what is left of them is. Assumes nothing.
 use Rattle.std.proofs.Common.{◌≡◌, ◌-◌, ◌≤◌, length, drop}
 use Rattle.general.specs.Tests.{same}
 use Rattle.lines.proofs.reading.same.Given as goal

@@ -1,4 +1,4 @@
--- `lines::writing::put_number` meets its contract. The measure is the number itself. Assumes nothing.
+-- `lines::writing::put_number` meets its contract. Assumes nothing.
 use Rattle.std.proofs.Common.{refl, ap, ◌+◌, ◌/◌, ◌%◌, arith, length, length-append}
 use Rattle.lines.specs.Printing.{decimal}
 use Rattle.lines.proofs.Decimals.{decimal_one, decimal_more, sets_snoc}

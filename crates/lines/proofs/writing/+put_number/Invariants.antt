@@ -1,3 +1,4 @@
+-- The measure of `lines::writing::put_number` is the number itself. Assumes nothing.
 use Rattle.lines.proofs.writing.+put_number.Given as goal
 
 abbrev pub decreases-put_number : goal.decreases-put_number

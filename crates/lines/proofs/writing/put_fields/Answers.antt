@@ -1,4 +1,4 @@
--- `lines::writing::put_fields` meets its contract. The loop keeps: what is written is the values so far, at most six bytes for each. Assumes nothing.
+-- `lines::writing::put_fields` meets its contract. Assumes nothing.
 use Rattle.std.proofs.Common.{◌++◌, ◌≡◌, refl, ◌∙◌, ◌+◌, ◌≤◌, add-one, arith, length, take, get_or, length-append, take_all}
 use Rattle.general.proofs.Laws.{sets_append}
 use Rattle.lines.specs.Printing.{field, fields}

@@ -1,3 +1,4 @@
+-- The loop of `lines::writing::put_fields` keeps: what is written is the values so far, at most six bytes for each. Assumes nothing.
 use Rattle.std.proofs.Common.{◌≡◌, ◌+◌, ◌-◌, ◌*◌, ◌≤◌, length, take}
 use lib.Seq.{sets}
 use Rattle.lines.specs.Printing.{fields}

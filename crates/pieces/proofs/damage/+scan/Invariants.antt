@@ -1,3 +1,4 @@
+-- What falls at each call of `pieces::damage::scan` by itself. Assumes nothing.
 use Rattle.pieces.proofs.damage.+scan.Given as goal
 
 abbrev pub decreases-scan : goal.decreases-scan

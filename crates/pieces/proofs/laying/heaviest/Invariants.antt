@@ -1,3 +1,4 @@
+-- What the loop of `pieces::laying::heaviest` keeps, and what falls at each turn. Assumes nothing.
 use Rattle.std.proofs.Common.{◌-◌, ◌≤◌}
 use Rattle.names.specs.Table.{number_under}
 use Rattle.pieces.specs.Laying.{Heaviest}

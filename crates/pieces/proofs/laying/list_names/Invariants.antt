@@ -1,3 +1,4 @@
+-- What the loop of `pieces::laying::list_names` keeps, and what falls at each turn. Assumes nothing.
 use Rattle.std.proofs.Common.{◌≡◌, ◌-◌, length}
 use Rattle.pieces.proofs.LayingOut.{Listing}
 use Rattle.pieces.proofs.laying.list_names.Given as goal

@@ -1,3 +1,4 @@
+-- What the loop of `pieces::laying::place_all` keeps, and what falls at each turn. Assumes nothing.
 use Rattle.std.proofs.Common.{◌≡◌, length, take}
 use Rattle.names.specs.Table.{number_under}
 use Rattle.pieces.specs.Fresh.{all_placed, ranks, Placeables}

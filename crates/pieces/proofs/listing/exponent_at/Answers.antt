@@ -1,4 +1,4 @@
--- `pieces::listing::exponent_at` meets its contract. The invariant: the leaves from a on are a run of one name, of exponent l. Assumes nothing.
+-- `pieces::listing::exponent_at` meets its contract. Assumes nothing.
 use Rattle.std.proofs.Common.{arith}
 use Rattle.pieces.proofs.Entries.{leaf_whole}
 use Rattle.pieces.proofs.PiecesByStart.{largest_end, largest_leaf, largest_last, largest_none, lower_more}

@@ -1,3 +1,4 @@
+-- The loop of `pieces::listing::exponent_at` keeps: the leaves from a on are a run of one name, of exponent l. Assumes nothing.
 use Rattle.std.proofs.Common.{◌≡◌, true, ◌-◌, ◌^◌, ◌%◌, ◌≤◌, get_or}
 use Rattle.pieces.specs.Board.{whole}
 use Rattle.pieces.proofs.listing.exponent_at.Given as goal

@@ -1,4 +1,4 @@
--- `pieces::listing::list_pieces` meets its contract. The invariant: what is left to list from the leaf a on gives the list asked for. Assumes nothing.
+-- `pieces::listing::list_pieces` meets its contract. Assumes nothing.
 use Rattle.std.proofs.Common.{refl, arith, pow_pos}
 use Rattle.pieces.proofs.Blocks.{whole_end}
 use Rattle.pieces.proofs.PiecesByStart.{left_all, left_more, left_done}

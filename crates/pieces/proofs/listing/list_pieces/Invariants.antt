@@ -1,3 +1,4 @@
+-- The loop of `pieces::listing::list_pieces` keeps: what is left to list from the leaf a on gives the list asked for. Assumes nothing.
 use Rattle.std.proofs.Common.{◌≡◌, ◌-◌, ◌*◌, ◌≤◌, length}
 use lib.Seq.{sets}
 use Rattle.pieces.specs.Listing.{named_pieces}

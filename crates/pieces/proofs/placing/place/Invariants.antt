@@ -1,3 +1,4 @@
+-- What the loop of `pieces::placing::place` keeps, and what falls at each turn. Assumes nothing.
 use Rattle.std.proofs.Common.{◌≡◌, true, ◌≤◌, length}
 use Rattle.pieces.specs.Halving.{roomy}
 use Rattle.pieces.specs.Placing as placing

@@ -1,3 +1,4 @@
+-- What the loop of `pieces::tidying::smallest_pair` keeps, and what falls at each turn. Assumes nothing.
 use Rattle.std.proofs.Common.{◌≡◌, ◌≤◌, ◌-◌}
 use Rattle.pieces.specs.Placing.{first}
 use Rattle.pieces.specs.Halving.{is_paired}

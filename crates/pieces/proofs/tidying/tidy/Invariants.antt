@@ -1,3 +1,4 @@
+-- What the loop of `pieces::tidying::tidy` keeps, and what falls at each turn. Assumes nothing.
 use Rattle.std.proofs.Common.{◌≡◌, ◌≤◌, ◌-◌, length}
 use Rattle.pieces.specs.Tidying as tidying
 use Rattle.pieces.proofs.tidying.tidy.Given as goal

@@ -1,3 +1,4 @@
+-- What the loop of `shares::carrying::run_places` keeps, and what falls at each turn. Assumes nothing.
 use Rattle.std.proofs.Common.{◌≡◌, ◌-◌, ◌≤◌, length}
 use Rattle.waiting.proofs.Laws.{state_from, list_from}
 use Rattle.shares.specs.States.{lent}

@@ -1,4 +1,4 @@
--- `put_zeros` meets its contract. The invariant: as many zeros are written as were passed. Assumes nothing.
+-- `put_zeros` meets its contract. Assumes nothing.
 use Rattle.std.proofs.Common.{◌≡◌, refl, arith}
 use Rattle.sheets.proofs.Stores.{zeros_none, zeros_more}
 use Rattle.sheets.proofs.blocks.put_zeros.Goals as goal

@@ -1,3 +1,4 @@
+-- The loop of `sheets::blocks::put_zeros` keeps: as many zeros are written as were passed. Assumes nothing.
 use Rattle.std.proofs.Common.{◌≡◌, ◌≤◌, ◌-◌, ◌*◌, length, replicate}
 use lib.Seq.{sets}
 use Rattle.sheets.specs.Blocks.{bytes_of}

@@ -1,4 +1,4 @@
--- `sum` meets its contract. The invariant: t is the sum of the numbers passed, each below 65,536. Assumes nothing.
+-- `sum` meets its contract. Assumes nothing.
 use Rattle.std.proofs.Common.{◌≡◌, sym, arith}
 use Rattle.sheets.proofs.Stores.{sum_more, sum_none}
 use Rattle.sheets.proofs.blocks.sum.Goals as goal

@@ -16,10 +16,10 @@ pub returns-then-a-size-ne0 : goal.returns-then-a-size-ne0
 returns-then-a-size-ne0 c = readable_odd _ _ _ _ _ c.if-x-eq0.false _ c.if-l-ge12.false c.size_of-size.ensures c.if-a-size-ne0.true
 
 pub returns-then-a-at : goal.returns-then-a-at
-returns-then-a-at c = readable_early _ _ _ _ _ c.if-x-eq0.false _ c.if-l-ge12.false c.size_of-size.ensures c.if-a-size-ne0.false c.if-a-at.true
+returns-then-a-at c = readable_early _ _ _ _ _ c.if-x-eq0.false _ c.if-l-ge12.false c.size_of-size.ensures c.if-a-at.true
 
 pub overflow_add-result : goal.overflow_add-result
 overflow_add-result c = let z : 2 ^ c.args.l ≤ 2 ^ 12 = pow_mono {j = 12} (omega arith) in omega arith
 
 pub returns : goal.returns
-returns c = readable_ends _ _ _ _ _ c.if-x-eq0.false _ c.if-l-ge12.false c.size_of-size.ensures c.if-a-size-ne0.false c.if-a-at.false
+returns c = readable_ends _ _ _ _ _ c.if-x-eq0.false _ c.if-l-ge12.false c.size_of-size.ensures (omega arith) c.if-a-at.false

@@ -1,4 +1,4 @@
--- `spell` meets its contract. The invariant: what is left to read from entry i on, which stands at q, gives the board asked for. Assumes nothing.
+-- `spell` meets its contract. Assumes nothing.
 use Rattle.std.proofs.Common.{◌≡◌, refl, sym, ◌∙◌, ◌-◌, ◌*◌, ◌/◌, arith, length}
 use Rattle.sheets.proofs.Spelling.{name_at, start_at, size_at, readable_elim, spell_more, spell_stop, spell_end}
 use Rattle.sheets.proofs.entries.spell.Goals as goal

@@ -1,3 +1,4 @@
+-- The loop of `sheets::entries::spell` keeps: what is left to read from entry i on, which stands at q, gives the board asked for. Assumes nothing.
 use Rattle.std.proofs.Common.{◌≡◌, ◌+◌, ◌-◌, ◌*◌, ◌/◌, ◌%◌, ◌≤◌, length}
 use Rattle.sheets.specs.Entries.{entry_in, spell}
 use Rattle.sheets.proofs.entries.spell.Given as goal

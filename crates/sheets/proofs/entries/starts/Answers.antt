@@ -1,4 +1,4 @@
--- `starts` meets its contract. The invariant: k of the first i bytes agree. Assumes nothing.
+-- `starts` meets its contract. Assumes nothing.
 use Rattle.std.proofs.Common.{◌≡◌, ap, ◌∙◌, Bool, ℕ, arith, eqb, get_or, length, eq-eqb, ne_eqb}
 use Rattle.general.specs.Tests.{passing}
 use Rattle.general.proofs.Laws.{passing_hit, passing_miss, passing_every}

@@ -1,3 +1,4 @@
+-- The loop of `sheets::entries::starts` keeps: k of the first i bytes agree. Assumes nothing.
 use Rattle.std.proofs.Common.{◌≡◌, ◌≤◌, ◌-◌, eqb, get_or}
 use Rattle.general.specs.Tests.{passing}
 use Rattle.sheets.proofs.entries.starts.Given as goal

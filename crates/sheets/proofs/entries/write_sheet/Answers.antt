@@ -1,4 +1,4 @@
--- `write_sheet` meets its contract. The invariant: the blocks passed are written. Assumes nothing.
+-- `write_sheet` meets its contract. Assumes nothing.
 use Rattle.std.proofs.Common.{refl, arith}
 use Rattle.sheets.specs.Entries.{entry_blocks, entry_bytes}
 use Rattle.sheets.proofs.Spelling.{entry_page_length}

@@ -1,4 +1,4 @@
--- `are_numbered` meets its contract. The invariant: the blocks before b have them. Assumes nothing.
+-- `are_numbered` meets its contract. Assumes nothing.
 use Rattle.std.proofs.Common.{◌≡◌, refl, sym, ◌∙◌, add-one, arith}
 use Rattle.general.specs.Tests.{every}
 use Rattle.general.proofs.Laws.{every_more, every_fails}

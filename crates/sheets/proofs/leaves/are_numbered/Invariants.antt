@@ -1,3 +1,4 @@
+-- The loop of `sheets::leaves::are_numbered` keeps: the blocks before b have them. Assumes nothing.
 use Rattle.std.proofs.Common.{◌≡◌, true, ◌≤◌, ◌-◌}
 use Rattle.general.specs.Tests.{every}
 use Rattle.sheets.specs.Sheet.{numbered}

@@ -1,4 +1,4 @@
--- `read_block` meets its contract. The invariant: the leaves passed are set. Assumes nothing.
+-- `read_block` meets its contract. Assumes nothing.
 use Rattle.std.proofs.Common.{◌≡◌, refl, ◌∙◌, ◌<◌, ◌-◌, ◌*◌, min, arith, length-set}
 use Rattle.sheets.proofs.Layouts.{leaf_at_lem}
 use Rattle.sheets.proofs.Stores.{leaves_none, leaves_more}

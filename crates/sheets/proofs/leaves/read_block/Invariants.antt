@@ -1,3 +1,4 @@
+-- The loop of `sheets::leaves::read_block` keeps: the leaves passed are set. Assumes nothing.
 use Rattle.std.proofs.Common.{◌≡◌, ◌≤◌, ◌-◌, ◌*◌, length}
 use lib.Seq.{sets}
 use Rattle.sheets.specs.Blocks.{values_from}

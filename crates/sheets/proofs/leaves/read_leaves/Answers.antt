@@ -1,4 +1,4 @@
--- `read_leaves` meets its contract. The invariant: the leaves of the blocks passed are set. Assumes nothing.
+-- `read_leaves` meets its contract. Assumes nothing.
 use Rattle.std.proofs.Common.{◌≡◌, refl, ◌*◌, min, arith}
 use native.Mathlib.Nat.{zero-min}
 use Rattle.sheets.specs.Sheet.{blocks, sheet_leaves}

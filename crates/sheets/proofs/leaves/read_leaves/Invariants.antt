@@ -1,3 +1,4 @@
+-- The loop of `sheets::leaves::read_leaves` keeps: the leaves of the blocks passed are set. Assumes nothing.
 use Rattle.std.proofs.Common.{◌≡◌, ◌≤◌, ◌-◌, ◌*◌, min, length}
 use lib.Seq.{sets}
 use Rattle.sheets.specs.Blocks.{values_from}

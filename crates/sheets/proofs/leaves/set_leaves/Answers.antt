@@ -1,4 +1,4 @@
--- `set_leaves` meets its contract. The invariant: the leaves passed are set. Assumes nothing.
+-- `set_leaves` meets its contract. Assumes nothing.
 use Rattle.std.proofs.Common.{refl, arith, length-set}
 use lib.Seq.{paste-zero}
 use Rattle.sheets.proofs.Stores.{copy_more, copy_done}

@@ -1,3 +1,4 @@
+-- The loop of `sheets::leaves::set_leaves` keeps: the leaves passed are set. Assumes nothing.
 use Rattle.std.proofs.Common.{◌≡◌, ◌≤◌, ◌-◌, length}
 use lib.Seq.{paste}
 use Rattle.sheets.proofs.leaves.set_leaves.Given as goal

@@ -1,4 +1,4 @@
--- `write_leaves` meets its contract. The invariant: the leaves passed are written, and t is their sum. Assumes nothing.
+-- `write_leaves` meets its contract. Assumes nothing.
 use Rattle.std.proofs.Common.{◌≡◌, refl, sym, ◌<◌, ◌+◌, arith}
 use Rattle.sheets.proofs.Layouts.{leaf_before}
 use Rattle.sheets.proofs.Stores.{sum_more, stores_none, stores_more, sum_none, leaves_sum, leaves_stores}

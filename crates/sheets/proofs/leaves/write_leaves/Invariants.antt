@@ -1,3 +1,4 @@
+-- The loop of `sheets::leaves::write_leaves` keeps: the leaves passed are written, and t is their sum. Assumes nothing.
 use Rattle.std.proofs.Common.{◌≡◌, ◌≤◌, ◌-◌, ◌*◌, length}
 use lib.Seq.{sets}
 use Rattle.sheets.specs.Blocks.{values_from, sum_of, bytes_of}

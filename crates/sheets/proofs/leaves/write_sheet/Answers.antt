@@ -1,4 +1,4 @@
--- `write_sheet` meets its contract. The invariant: the blocks passed are written. Assumes nothing.
+-- `write_sheet` meets its contract. Assumes nothing.
 use Rattle.std.proofs.Common.{refl, arith}
 use Rattle.sheets.specs.Sheet.{blocks, sheet}
 use Rattle.sheets.proofs.Layouts.{page_length}

@@ -1,3 +1,4 @@
+-- The loop of `sheets::leaves::write_sheet` keeps: the blocks passed are written. Assumes nothing.
 use Rattle.std.proofs.Common.{◌≡◌, ◌≤◌, ◌-◌, length}
 use lib.Seq.{sets}
 use Rattle.sheets.specs.Blocks.{bytes_of, stack}

@@ -1,3 +1,4 @@
+-- What the loop of `telling::reading::line_end` keeps, and what falls at each turn. Assumes nothing.
 use Rattle.std.proofs.Common.{◌-◌, ◌≤◌, length}
 use Rattle.telling.proofs.reading.line_end.Given as goal
 

@@ -1,3 +1,4 @@
+-- What the loop of `telling::reading::read_numbers` keeps, and what falls at each turn. Assumes nothing.
 use Rattle.std.proofs.Common.{◌≡◌, ◌-◌, ◌≤◌, length}
 use Rattle.telling.proofs.reading.read_numbers.Given as goal
 

@@ -1,3 +1,4 @@
+-- What the loop of `telling::reading::read_text` keeps, and what falls at each turn. Assumes nothing.
 use Rattle.std.proofs.Common.{length, ◌-◌, ◌≡◌, ◌≤◌}
 use Rattle.telling.proofs.reading.read_text.Given as goal
 

@@ -1,3 +1,4 @@
+-- What the loop of `telling::reading::say_row` keeps, and what falls at each turn. Assumes nothing.
 use Rattle.std.proofs.Common.{◌-◌, ◌≤◌}
 use Rattle.telling.proofs.reading.say_row.Given as goal
 

@@ -1,3 +1,4 @@
+-- What the loop of `telling::stores::count` keeps, and what falls at each turn. Assumes nothing.
 use Rattle.std.proofs.Common.{◌-◌, ◌≤◌}
 use Rattle.telling.proofs.stores.count.Given as goal
 

@@ -1,3 +1,4 @@
+-- What the loop of `telling::stores::fill_bytes` keeps, and what falls at each turn. Assumes nothing.
 use Rattle.std.proofs.Common.{◌≡◌, ◌-◌, ◌≤◌, length}
 use Rattle.telling.proofs.stores.fill_bytes.Given as goal
 

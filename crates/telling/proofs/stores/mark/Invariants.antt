@@ -1,3 +1,4 @@
+-- What the loop of `telling::stores::mark` keeps, and what falls at each turn. Assumes nothing.
 use Rattle.std.proofs.Common.{◌-◌, ◌<◌, ◌≤◌, length}
 use Rattle.telling.proofs.stores.mark.Given as goal
 
