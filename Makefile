@@ -43,7 +43,7 @@ install-library:
 	$(INSTALL) -m 644 docs/man/mandrozsi.3 $(calls_to)
 
 install-console:
-	$(call built,$(console),rt run in crates/console)
+	$(call built,$(console),cd crates/console && rt run </dev/null)
 	$(INSTALL) -d $(dir $(console_files))
 	$(INSTALL) -m 755 $(console) $(console_to)
 	$(INSTALL) -m 644 docs/man/mandrozsi.1 $(session_to)
