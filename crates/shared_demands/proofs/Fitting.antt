@@ -228,9 +228,9 @@ pub tabling_turned : (C p q : ℕ) (s : BoardTables) → Tabling C p q s → Tab
 tabling_turned C p q s is =
     let t = is.tables in
     record {
+      tables = record { rates = t.rates; owed = t.other; other = t.owed; fit = fits_swap C s.board s.rates s.owed [] s.other t.fit };
       told = is.others;
       others = is.told;
-      tables = record { rates = t.rates; owed = t.other; other = t.owed; fit = fits_swap C s.board s.rates s.owed [] s.other t.fit };
     }
 
 -- Orders, carried out where both drives are at the start of a round.
