@@ -35,22 +35,22 @@
  *   is locked.
  * - There is stack enough. Measured, in bytes from the return address down, so without the caller's own for arguments and reply (C = 4,095 with
  *   200 streams; docs/MEASURED.md says how):
- *     walk, fetch; open; round; import                    8, 8; 40; 124; 2,272
- *     slot away from p = 1; at p = 1; with 64 orders        168; 232; 40,704
- *     slot_here, the same three                             312; 376; 40,848
- *     report, save, read                              26,080, 26,160, 34,240
- *     add, remove, batch                              26,752, 26,832, 26,944
- *     to_pieces, save_pieces                                  42,480, 49,528
- *     fresh, read_pieces, to_leaves                   59,472, 59,360, 67,648
- *     pair_slot, the same three                             248; 312; 40,784
- *     any other call for two drives                          16 more at most
- *     with tables: open, import                                    72, 2,272
- *     slot; with 64 adds; with 64 removes             26,304; 26,304; 49,720
- *     slot_here, the same three                       26,368; 26,368; 49,784
- *     save, add, over                                 26,240, 26,384, 26,384
- *     read, round, report                             34,256, 34,368, 42,528
- *     remove, batch, fresh                            49,784, 49,848, 51,312
- *     read_pieces, save_pieces                                59,392, 50,736
+ *     walk, fetch; open; round; import                  32, 48; 40; 181; 2,464
+ *     slot away from p = 1; at p = 1; with 64 orders        168; 200; 34,840
+ *     slot_here, the same three                             360; 392; 35,032
+ *     report, save, read                              25,448, 25,528, 33,528
+ *     add, remove, batch                              26,992, 26,168, 27,056
+ *     to_pieces, save_pieces                                  41,752, 49,496
+ *     fresh, read_pieces, to_leaves                   59,632, 58,728, 67,016
+ *     pair_slot, the same three                             296; 328; 34,968
+ *     any other call for two drives                          48 more at most
+ *     with tables: open, import                                    88, 2,528
+ *     slot; with 64 adds; with 64 removes             25,688; 25,688; 39,512
+ *     slot_here, the same three                       25,752; 25,752; 39,576
+ *     save, add, over                                 25,528, 25,672, 25,672
+ *     read, round, report                             33,560, 33,640, 41,832
+ *     remove, batch, fresh                            39,496, 39,560, 43,328
+ *     read_pieces, save_pieces                                58,776, 50,024
  *
  * Of a C library the archive needs memcpy and memset, and nothing else. */
 #ifndef MANDROZSI_H
