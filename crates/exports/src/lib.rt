@@ -1,6 +1,6 @@
 // The functions that C and Rust get: every call on a slot board with its waiting list, and save and read; in `pair` those for two drives on one board, in
 // `sharing` those with the tables of over-allocated streams, in `by_hand` those of both that are lent structs, in `tree_walk` the tree walk, in `piece_sheets` the
-// sheets that list pieces, in `group_table` a group table. A slice is a pointer and then a length.
+// sheets that list pieces, in `group_table` a group table.
 // `exports_c` exports each under its name: its body there is the call.
 #![tactic(auto)]
 

@@ -1,5 +1,5 @@
-// What a call said, printed: the answer's number and its values, zeros where it is refused. Each function gives back the record that came with the answer,
-// and `Err` just where a write failed.
+// What a call said, printed: the answer's number and its values, zeros where it is refused. Each `tell_` function gives back the record that came with the
+// answer, and each that prints `Err` just where a write failed.
 use crate::{say, say_entry, say_number, say_refusal};
 use calls::{Change, Changed, Check, Checked, Drive, Refusal, Report, Reported, Served, Serving};
 use std::io;
