@@ -5,7 +5,7 @@ ghost use Rattle.pieces.specs.Halving as halving;
 
 use crate::{Idle, fill, idle_leaves, size_of};
 
-// What stands for no start: a board has less than 4,096 leaves. It is a number, since the older kit covered no slice of enums.
+// What stands for no start: a board has less than 4,096 leaves.
 const NO_START: usize = 4096;
 
 // Makes all leaves of a name idle.

@@ -7,7 +7,7 @@ use native.Mathlib.Omega.{arith}
 use lib.ListN.{length}
 use Rattle.sequences.proofs.Laws.{leaf_below_lem}
 use Rattle.tables.specs.Turns.{Shared, name_at, owed_at}
-use Rattle.tables.proofs.Laws.{fits_shared, fits_swap}
+use Rattle.tables.proofs.Laws.{fits_shared}
 use Rattle.calls.specs.declared.Drive.{Drive}
 use Rattle.calls.specs.declared.Refusal.{Refusal}
 use Rattle.calls.specs.declared.Check.TheVariants.{Clear}
@@ -19,7 +19,7 @@ use Rattle.calls.specs.Results.{served_leaf, served_passed, served_round, served
 use Rattle.calls.proofs.Laws.{slot_sized, slot_position}
 use Rattle.waiting.specs.Layout.{too_short}
 use Rattle.drives.specs.Checks.{both_start}
-use Rattle.shares.specs.States.{BoardTables, lent}
+use Rattle.shares.specs.States.{BoardTables}
 use Rattle.shares.specs.Checks.{list_check, Ready}
 use Rattle.shares.specs.Results.{state_if, list_if, state_then, list_then, turn_state, served_by, served_answer_by}
 use Rattle.shares.specs.Promises.{Serves}
@@ -60,16 +60,6 @@ module _ (d : Drive) (s : BoardTables) (is : Ready d s) where
       turn_done given E g t =
           let r = rest_is in
           (rw (moved, g, r.0, r.1, leaf_is) refl, t ∙ ap (λ (l : ℕ). owed_at d.capacity s.board s.rates s.owed l) leaf_is)
-
--- what the turn asks for is the same of the tables where the drives' deficits are exchanged
-pub ready_turned : (d : Drive) (s : BoardTables) → Ready d s → Ready d (lent s.board s.rates s.other s.owed)
-ready_turned d s is = record {
-  clear = is.clear;
-  rates = is.rates;
-  owed = is.other;
-  other = is.owed;
-  fit = fits_swap d.capacity s.board s.rates s.owed [] s.other is.fit;
-}
 
 -- ---- slot: t and M are the state and the list once the list is run, where a round begins
 

@@ -3,24 +3,13 @@ use Rattle.std.proofs.Common.{sym, ◌∙◌}
 use Rattle.drives.proofs.Laws.{start_both}
 use Rattle.shares.specs.States.{lent}
 use Rattle.shares.proofs.Readying.{share_ready, list_long}
-use Rattle.shares.proofs.Turning.{slot_ready, ready_turned, slot_done}
+use Rattle.shares.proofs.Turning.{slot_ready, slot_done}
 use Rattle.shares.proofs.slot.Goals as goal
 
 pub start-requires : goal.start-requires
 start-requires c =
     let e = sym c.check_shares.ensures ∙ c.in-Clear.is in
     (share_ready _ _ _ _ e, λ t. (start_both _ _ (sym c.both_start-begins.ensures ∙ t)).0, list_long _ _ _ _ e)
-
--- whichever drive's deficits decide the turn, what it asks for holds
-pub serve-requires : goal.serve-requires
-serve-requires c =
-    let a = c.args in
-    let e = sym c.check_shares.ensures ∙ c.in-Clear.is in
-    let ready = slot_ready a.own a.other (lent a.board.now a.rates.now a.owed.now a.owed_other.now) a.list.now e c.both_start-begins.result _ c.start.ensures.0 in
-    search (ready, ready_turned _ _ ready)
-
-pub returns-in-Refused : goal.returns-in-Refused
-returns-in-Refused c = let e = sym c.check_shares.ensures ∙ c.in-Refused.is in (simp e, simp e, simp e, simp e)
 
 pub returns-in-Clear : goal.returns-in-Clear
 returns-in-Clear c =
@@ -29,3 +18,12 @@ returns-in-Clear c =
     let k = c.start.ensures in
     let g = c.serve.ensures in
     slot_done a.own a.other (lent a.board.now a.rates.now a.owed.now a.owed_other.now) a.list.now e _ _ k.0 c.both_start-begins.ensures _ k.1 _ _ g.0 g.1
+
+pub serve-requires : goal.serve-requires
+serve-requires c =
+    let a = c.args in
+    let e = sym c.check_shares.ensures ∙ c.in-Clear.is in
+    slot_ready a.own a.other (lent a.board.now a.rates.now a.owed.now a.owed_other.now) a.list.now e c.both_start-begins.result _ c.start.ensures.0
+
+pub returns-in-Refused : goal.returns-in-Refused
+returns-in-Refused c = let e = sym c.check_shares.ensures ∙ c.in-Refused.is in (simp e, simp e, simp e, simp e)
