@@ -35,22 +35,22 @@
  *   is locked.
  * - There is stack enough. Measured, in bytes from the return address down, so without the caller's own for arguments and reply (C = 4,095 with
  *   200 streams; docs/MEASURED.md says how):
- *     walk, fetch; open; round; import                  32, 48; 40; 181; 2,464
+ *     walk, fetch; open; round; import                32, 48; 56; 113; 2,256
  *     slot away from p = 1; at p = 1; with 64 orders        168; 200; 34,840
  *     slot_here, the same three                             360; 392; 35,032
- *     report, save, read                              25,448, 25,528, 33,528
- *     add, remove, batch                              26,992, 26,168, 27,056
- *     to_pieces, save_pieces                                  41,752, 49,496
- *     fresh, read_pieces, to_leaves                   59,632, 58,728, 67,016
+ *     report, save, read                              25,464, 25,512, 33,528
+ *     add, remove, batch                              26,736, 26,176, 26,848
+ *     to_pieces, save_pieces                                  66,392, 25,512
+ *     fresh, read_pieces, to_leaves                   59,408, 58,744, 67,032
  *     pair_slot, the same three                             296; 328; 34,968
- *     any other call for two drives                          48 more at most
- *     with tables: open, import                                    88, 2,528
- *     slot; with 64 adds; with 64 removes             25,688; 25,688; 39,512
- *     slot_here, the same three                       25,752; 25,752; 39,576
- *     save, add, over                                 25,528, 25,672, 25,672
- *     read, round, report                             33,560, 33,640, 41,832
- *     remove, batch, fresh                            39,496, 39,560, 43,328
- *     read_pieces, save_pieces                                58,776, 50,024
+ *     any other call for two drives                          32 more at most
+ *     with tables: open, import                                   104, 2,304
+ *     slot; with 64 adds; with 64 removes             25,768; 25,768; 39,592
+ *     slot_here, the same three                       25,832; 25,832; 39,656
+ *     save, add, over                                 25,544, 25,752, 25,752
+ *     read, round, report                             33,560, 33,608, 41,800
+ *     remove, batch, fresh                            39,576, 39,656, 43,088
+ *     read_pieces, save_pieces                                58,792, 50,072
  *
  * Of a C library the archive needs memcpy and memset, and nothing else. */
 #ifndef MANDROZSI_H

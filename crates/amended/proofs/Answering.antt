@@ -4,7 +4,6 @@ use mathlib.Core.Bool.{Bool, true, false, cond, not}
 use mathlib.Core.List.{List, [], ◌∷◌, ◌++◌}
 use mathlib.Core.Logic.{⊎_elim}
 use Prim.Native.Nat.{ℕ, ◌+◌}
-use native.Mathlib.Omega.{arith}
 use lib.Dec.{eqb, ltb}
 use lib.ListN.{length, drop}
 use borrow.Author.Tests.{eq-eqb, eqb-false}
@@ -15,8 +14,8 @@ use Rattle.pieces.specs.Fresh.{fresh}
 use Rattle.calls.specs.declared.Drive.{Drive}
 use Rattle.calls.specs.declared.Refusal.{Refusal}
 use Rattle.calls.specs.declared.Refusal.TheVariants.{Short, Position, Damaged, Name, Weight, Taken, Absent, Room, Block}
-use Rattle.calls.specs.declared.Check.{Check}
-use Rattle.calls.specs.declared.Check.TheVariants.{Clear, Refused}
+use Rattle.calls.specs.Types.{Check}
+use Rattle.std.specs.Prelude.{Ok, Err}
 use Rattle.calls.specs.Refusals.{numbers, number_of, first_of, refuse_if, and_then, zero_or, among, asked_open, asked, asked_add, asked_name, open_may, change_may, slot_may, open_check, slot_check, position_check, good_check, held_check, change_check, admit_check, add_check, remove_check, round_check, report_check}
 use Rattle.calls.specs.Records.{drive_at}
 use Rattle.calls.specs.Answers.{number_by, answered, beside}
@@ -30,8 +29,8 @@ use Rattle.sheets.proofs.Laws.{save_answers, save_pieces_answers}
 use Rattle.waiting.specs.declared.Order.{Order}
 use Rattle.waiting.specs.Layout.{too_short, last_ticket, full, taken_list}
 use Rattle.waiting.proofs.Laws.{fetch_cases}
-use Rattle.orders.specs.declared.Way.{Way}
-use Rattle.orders.specs.declared.Way.TheVariants as way
+use Rattle.orders.specs.Types.{Way}
+use Rattle.orders.specs.declared.Moment.TheVariants as moment
 use Rattle.orders.specs.Checks.{long_check, lent_check, bounds_check, reading_check, order_check, must_wait, way_by, way_of}
 use Rattle.orders.specs.Results.{add_order, remove_order, carried_answer, carried_board, changed_answer_by, board_by, list_by, served_by, served_answer_by, board_then, list_then}
 use Rattle.orders.proofs.Laws.{now_start}
@@ -44,7 +43,7 @@ use Rattle.amended.specs.Refusing.{RefusedBy, may_answer, is_done, idle_leaves}
 pub lent_within : (C : ℕ) (B : List ℕ) (n : ℕ) → Within (1 ∷ 2 ∷ []) (lent_check C B n)
 unfolding lent_check open_check zero_or
 lent_within C B n =
-    then_within (1 ∷ 2 ∷ []) (open_check C B) (long_check n) (first_within open_may (asked_open C B)) (if_within (1 ∷ 2 ∷ []) (too_short n) Short Clear refl refl)
+    then_within (1 ∷ 2 ∷ []) (open_check C B) (long_check n) (first_within open_may (asked_open C B)) (if_within (1 ∷ 2 ∷ []) (too_short n) Short (Ok tt) refl refl)
 
 pub bounds_within : (d : Drive) (B : List ℕ) (n : ℕ) → Within (1 ∷ 2 ∷ 3 ∷ []) (bounds_check d B n)
 unfolding bounds_check position_check covers zero_or
@@ -68,7 +67,7 @@ read_within F S B n =
     then_within ns (head_check S B) (and_then (long_check n) laying)
     (then_within ns (block_check (ltb (length S) 512)) (open_check C B) (block_within (ltb (length S) 512))
     (part_within ns (1 ∷ 2 ∷ []) (open_check C B) refl (first_within open_may (asked_open C B))))
-    (then_within ns (long_check n) laying (if_within ns (too_short n) Short Clear refl refl)
+    (then_within ns (long_check n) laying (if_within ns (too_short n) Short (Ok tt) refl refl)
     (then_within ns (block_check (not (F.laid C S))) sound (block_within (not (F.laid C S)))
     (part_within ns (5 ∷ []) sound refl (first_within (Damaged ∷ []) (asked (drive_at C 1) (F.leaves C S))))))
 
@@ -84,8 +83,8 @@ unfolding order_check zero_or
 order_within C B o =
     let ns : List ℕ = 5 ∷ 6 ∷ 7 ∷ [] in
     let weightless = cond (eqb o.kind 2) false (eqb o.weight 0) in
-    if_within ns (not (good C B)) Damaged (refuse_if (eqb o.name 0) Name (refuse_if weightless Weight Clear)) refl
-    (if_within ns (eqb o.name 0) Name (refuse_if weightless Weight Clear) refl (if_within ns weightless Weight Clear refl refl))
+    if_within ns (not (good C B)) Damaged (refuse_if (eqb o.name 0) Name (refuse_if weightless Weight (Ok tt))) refl
+    (if_within ns (eqb o.name 0) Name (refuse_if weightless Weight (Ok tt)) refl (if_within ns weightless Weight (Ok tt) refl refl))
 
 -- a change that is made at position 1 is not refused for MIDROUND
 change_within : (d : Drive) (B : List ℕ) → d.position ≡ 1 → Within (1 ∷ 2 ∷ 3 ∷ 5 ∷ []) (change_check d B)
@@ -108,8 +107,8 @@ add_within d B x w first =
     (then_within ns (change_check d B) (first_of own q)
     (part_within ns (1 ∷ 2 ∷ 3 ∷ 5 ∷ []) (change_check d B) refl (change_within d B first))
     (part_within ns (6 ∷ 7 ∷ 8 ∷ []) (first_of own q) refl (first_within own q))) in
-    let room : Check = refuse_if (ltb (weight d.capacity B 0) w) Room Clear in
-    rw (add_parts d B x w) (then_within ns (admit_check d B x w) room admit (if_within ns (ltb (weight d.capacity B 0) w) Room Clear refl refl))
+    let room : Check = refuse_if (ltb (weight d.capacity B 0) w) Room (Ok tt) in
+    rw (add_parts d B x w) (then_within ns (admit_check d B x w) room admit (if_within ns (ltb (weight d.capacity B 0) w) Room (Ok tt) refl refl))
 
 pub remove_within : (d : Drive) (B : List ℕ) (x : ℕ) → d.position ≡ 1 → Within (1 ∷ 2 ∷ 3 ∷ 5 ∷ 6 ∷ 9 ∷ []) (remove_check d B x)
 unfolding held_check covers zero_or
@@ -121,21 +120,21 @@ remove_within d B x first =
     (part_within ns (6 ∷ 9 ∷ []) (held_check d.capacity B x) refl (first_within (Name ∷ Absent ∷ []) (asked_name (drive_at d.capacity 1) B x))))
 
 -- a change that is not made keeps to the lists of the first checks and of an order
-pub way_within : (ns : List ℕ) (k : Check) (waits : Bool) (j : Check) → Within ns k → Within ns j → (r : Refusal) → way_by k waits j ≡ way.Refused r → zero_or (number_of r) ns ≡ true
-way_within ns (Refused q) waits j m n r e = let z : q ≡ r = cc in subst (λ (x : Refusal). zero_or (number_of x) ns ≡ true) z m
-way_within ns Clear false j m n r e = let z : ◌≡◌ {A = ℕ} 0 1 = cc in absurd (omega arith)
-way_within ns Clear true Clear m n r e = let z : ◌≡◌ {A = ℕ} 0 1 = cc in absurd (omega arith)
-way_within ns Clear true (Refused q) m n r e = let z : q ≡ r = cc in subst (λ (x : Refusal). zero_or (number_of x) ns ≡ true) z n
+pub way_within : (ns : List ℕ) (k : Check) (waits : Bool) (j : Check) → Within ns k → Within ns j → (r : Refusal) → way_by k waits j ≡ Err r → zero_or (number_of r) ns ≡ true
+way_within ns (Err q) waits j m n r e = let z : q ≡ r = cc in subst (λ (x : Refusal). zero_or (number_of x) ns ≡ true) z m
+way_within ns (Ok u) false j m n r e = cc
+way_within ns (Ok u) true (Ok v) m n r e = cc
+way_within ns (Ok u) true (Err q) m n r e = let z : q ≡ r = cc in subst (λ (x : Refusal). zero_or (number_of x) ns ≡ true) z n
 
 -- How a change may be taken: it is refused only by a number of ns, and made at once only where a round begins.
 pub record TakenBy (ns : List ℕ) (d : Drive) (k : Way) : Type 0 where
-  pub within : (r : Refusal) → k ≡ way.Refused r → zero_or (number_of r) ns ≡ true
-  pub first : k ≡ way.Now → d.position ≡ 1
+  pub within : (r : Refusal) → k ≡ Err r → zero_or (number_of r) ns ≡ true
+  pub first : k ≡ Ok moment.Now → d.position ≡ 1
 
 -- ---- demand 1, call by call
 
 -- a call is refused where its number is not 0
-refused : (k : Check) → eqb (number_by k) 0 ≡ false → (r : Refusal) × (k ≡ Refused r)
+refused : (k : Check) → eqb (number_by k) 0 ≡ false → (r : Refusal) × (k ≡ Err r)
 refused k e = refusal k (λ z. eqb-false (number_by k) 0 e z)
 
 -- zeros, where the list has neither 13 nor 10
@@ -173,32 +172,32 @@ module _ (s : Desk) where
 
   pub add_refused : (x w : ℕ) (k : Way) → TakenBy firsts d k → eqb (changed_answer_by k d B L (add_order x w)).number 0 ≡ false → LeftBy (Adds x w) (add_order x w) k
   unfolding covers zero_or carried_answer carried_board
-  add_refused x w (way.Refused r) t h =
+  add_refused x w (Err r) t h =
       let m = t.within r refl in
       record {
-        number = part_within (may_answer (Adds x w)) firsts (Refused r) refl m;
+        number = part_within (may_answer (Adds x w)) firsts (Err r) refl m;
         record' = refl;
         board = refl;
         list = λ q. refl;
         output = refl;
         values = zeros_say firsts (number_of r) (last_ticket L + 1) (idle_leaves s) (0 ∷ []) m refl refl refl;
       }
-  add_refused x w way.Wait t h = by_bool (full L)
+  add_refused x w (Ok moment.Later) t h = by_bool (full L)
       (λ f. record { number = rw f refl; record' = refl; board = refl; list = λ q. rw f refl; output = refl; values = rw f refl })
       (λ f. record {
         number = rw f refl;
         record' = refl;
         board = refl;
-        list = λ q. let z = rw f at q in let y : ◌≡◌ {A = ℕ} 0 1 = cc in absurd (omega arith);
+        list = λ q. let z = rw f at q in cc;
         output = refl;
         values = rw f refl;
       })
-  add_refused x w way.Now t h =
+  add_refused x w (Ok moment.Now) t h =
       let ns : List ℕ = 1 ∷ 2 ∷ 3 ∷ 5 ∷ 6 ∷ 7 ∷ 8 ∷ 10 ∷ [] in
       let f = refused (add_check d B x w) h in
       let m : zero_or (number_of f.0) ns ≡ true = rw f.1 at (add_within d B x w (t.first refl)) in
       record {
-        number = rw f.1 (part_within (may_answer (Adds x w)) ns (Refused f.0) refl m);
+        number = rw f.1 (part_within (may_answer (Adds x w)) ns (Err f.0) refl m);
         record' = refl;
         board = rw f.1 refl;
         list = λ q. refl;
@@ -208,32 +207,32 @@ module _ (s : Desk) where
 
   pub remove_refused : (x : ℕ) (k : Way) → TakenBy remove_firsts d k → eqb (changed_answer_by k d B L (remove_order x)).number 0 ≡ false → LeftBy (Removes x) (remove_order x) k
   unfolding covers zero_or carried_answer carried_board
-  remove_refused x (way.Refused r) t h =
+  remove_refused x (Err r) t h =
       let m = t.within r refl in
       record {
-        number = part_within (may_answer (Removes x)) remove_firsts (Refused r) refl m;
+        number = part_within (may_answer (Removes x)) remove_firsts (Err r) refl m;
         record' = refl;
         board = refl;
         list = λ q. refl;
         output = refl;
         values = zeros_say remove_firsts (number_of r) (last_ticket L + 1) (idle_leaves s) (0 ∷ []) m refl refl refl;
       }
-  remove_refused x way.Wait t h = by_bool (full L)
+  remove_refused x (Ok moment.Later) t h = by_bool (full L)
       (λ f. record { number = rw f refl; record' = refl; board = refl; list = λ q. rw f refl; output = refl; values = rw f refl })
       (λ f. record {
         number = rw f refl;
         record' = refl;
         board = refl;
-        list = λ q. let z = rw f at q in let y : ◌≡◌ {A = ℕ} 0 1 = cc in absurd (omega arith);
+        list = λ q. let z = rw f at q in cc;
         output = refl;
         values = rw f refl;
       })
-  remove_refused x way.Now t h =
+  remove_refused x (Ok moment.Now) t h =
       let ns : List ℕ = 1 ∷ 2 ∷ 3 ∷ 5 ∷ 6 ∷ 9 ∷ [] in
       let f = refused (remove_check d B x) h in
       let m : zero_or (number_of f.0) ns ≡ true = rw f.1 at (remove_within d B x (t.first refl)) in
       record {
-        number = rw f.1 (part_within (may_answer (Removes x)) ns (Refused f.0) refl m);
+        number = rw f.1 (part_within (may_answer (Removes x)) ns (Err f.0) refl m);
         record' = refl;
         board = rw f.1 refl;
         list = λ q. refl;
@@ -268,8 +267,8 @@ module _ (s : Desk) where
   pub slot_refused : (D F : List ℕ) (k : Check) → Within (may_answer Slots) k → eqb (number_by k) 0 ≡ false
       → RefusedBy Slots s (served_answer_by k d D) (served_by k d D).drive (if_clear k D B) (if_clear k F L) []
   unfolding zero_or
-  slot_refused D F Clear m h = clash refl h
-  slot_refused D F (Refused r) m h = record {
+  slot_refused D F (Ok tt) m h = clash refl h
+  slot_refused D F (Err r) m h = record {
     number = m;
     record' = refl;
     board = refl;
@@ -281,8 +280,8 @@ module _ (s : Desk) where
   pub round_refused : (O done : List ℕ) (k : Check) → Within (may_answer (Rounds O)) k → eqb (number_by k) 0 ≡ false
       → RefusedBy (Rounds O) s (answered k []) d B L (if_clear k done O)
   unfolding zero_or
-  round_refused O done Clear m h = clash refl h
-  round_refused O done (Refused r) m h = record {
+  round_refused O done (Ok tt) m h = clash refl h
+  round_refused O done (Err r) m h = record {
     number = m;
     record' = refl;
     board = refl;
@@ -294,8 +293,8 @@ module _ (s : Desk) where
   pub report_refused : (x w n p : ℕ) (k : Check) → Within (may_answer (Reports x)) k → eqb (number_by k) 0 ≡ false
       → RefusedBy (Reports x) s (answered k (w ∷ n ∷ p ∷ [])) d B L []
   unfolding zero_or
-  report_refused x w n p Clear m h = clash refl h
-  report_refused x w n p (Refused r) m h = record {
+  report_refused x w n p (Ok tt) m h = clash refl h
+  report_refused x w n p (Err r) m h = record {
     number = m;
     record' = refl;
     board = refl;
@@ -307,8 +306,8 @@ module _ (s : Desk) where
   pub save_refused : (form : Sheets) (O done : List ℕ) (n : ℕ) (k : Check) → Within (may_answer (Saves form O)) k → eqb (number_by k) 0 ≡ false
       → RefusedBy (Saves form O) s (answered k (n ∷ [])) d B L (if_clear k done O)
   unfolding zero_or
-  save_refused form O done n Clear m h = clash refl h
-  save_refused form O done n (Refused r) m h = record {
+  save_refused form O done n (Ok tt) m h = clash refl h
+  save_refused form O done n (Err r) m h = record {
     number = m;
     record' = refl;
     board = refl;
@@ -320,8 +319,8 @@ module _ (s : Desk) where
   pub fresh_refused : (D : List ℕ) (k : Check) → Within (may_answer Refreshes) k → eqb (number_by k) 0 ≡ false
       → RefusedBy Refreshes s (answered k []) d (if_clear k D B) L []
   unfolding zero_or
-  fresh_refused D Clear m h = clash refl h
-  fresh_refused D (Refused r) m h = record {
+  fresh_refused D (Ok tt) m h = clash refl h
+  fresh_refused D (Err r) m h = record {
     number = m;
     record' = refl;
     board = refl;
@@ -335,7 +334,7 @@ module _ (s : Desk) where
 fetch_refused : (t : ℕ) (s : Desk) → is_done (Fetches t) s ≡ false → refusing.Refused (Fetches t) s
 unfolding zero_or
 fetch_refused t s h = ⊎_elim
-    (λ r. let z = rw r.1 at h in let y : ◌≡◌ {A = ℕ} 0 1 = cc in absurd (omega arith))
+    (λ r. let z = rw r.1 at h in cc)
     (λ k. ⊎_elim
     (λ e. record { number = rw e refl; record' = refl; board = refl; list = λ q. k.1; output = refl; values = rw e refl })
     (λ e. record { number = rw e refl; record' = refl; board = refl; list = λ q. k.1; output = refl; values = rw e refl })

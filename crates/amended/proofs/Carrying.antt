@@ -7,16 +7,16 @@ use Prim.Native.Nat.{ℕ}
 use lib.Dec.{eqb}
 use Rattle.general.proofs.Laws.{by_bool}
 use Rattle.calls.specs.declared.Drive.{Drive}
-use Rattle.calls.specs.declared.Check.{Check}
-use Rattle.calls.specs.declared.Check.TheVariants.{Clear, Refused}
+use Rattle.calls.specs.Types.{Check}
+use Rattle.std.specs.Prelude.{Ok, Err}
 use Rattle.calls.specs.Results.{if_clear}
 use Rattle.demands.specs.Histories.{Add, Remove, State, says, after, log}
 use Rattle.demands.specs.Rounds.{names}
 use Rattle.demands.proofs.Laws.{state_at, after_append, names_append}
 use Rattle.waiting.specs.declared.Order.{Order}
 use Rattle.waiting.specs.Carrying.{carried_all}
-use Rattle.orders.specs.declared.Way.{Way}
-use Rattle.orders.specs.declared.Way.TheVariants as way
+use Rattle.orders.specs.Types.{Way}
+use Rattle.orders.specs.declared.Moment.TheVariants as moment
 use Rattle.orders.specs.Results.{add_order, remove_order, carried_answer, carried_board, doing}
 use Rattle.amended.specs.Carried.{act_of, acts_of, in_turn}
 use Rattle.amended.specs.Turns.{if_now}
@@ -62,13 +62,13 @@ acts_names s (o ∷ os) = names_append s (act_of o) (acts_of os) ∙ rw (act_nam
 -- what hangs on C and p alone is the same at two records that a call carries orders out at
 module _ {X : Type 0} (f : Drive → List Order → X) (none : (a b : Drive) → f a [] ≡ f b [])
     (some : (a b : Drive) → a.capacity ≡ b.capacity → a.position ≡ b.position → (os : List Order) → f a os ≡ f b os) (a b : Drive) where
-  pub way_alike : (o : Order) (k : Way) → (k ≡ way.Now → (a.capacity ≡ b.capacity) × (a.position ≡ b.position)) → f a (if_now k o) ≡ f b (if_now k o)
-  way_alike o (way.Refused r) is = none a b
-  way_alike o way.Wait is = none a b
-  way_alike o way.Now is = some a b (is refl).0 (is refl).1 (o ∷ [])
+  pub way_alike : (o : Order) (k : Way) → (k ≡ Ok moment.Now → (a.capacity ≡ b.capacity) × (a.position ≡ b.position)) → f a (if_now k o) ≡ f b (if_now k o)
+  way_alike o (Err r) is = none a b
+  way_alike o (Ok moment.Later) is = none a b
+  way_alike o (Ok moment.Now) is = some a b (is refl).0 (is refl).1 (o ∷ [])
 
-  pub run_alike : (k : Check) (begins : Bool) (os : List Order) → (k ≡ Clear → begins ≡ true → (a.capacity ≡ b.capacity) × (a.position ≡ b.position))
+  pub run_alike : (k : Check) (begins : Bool) (os : List Order) → (k ≡ Ok tt → begins ≡ true → (a.capacity ≡ b.capacity) × (a.position ≡ b.position))
       → f a (if_clear k (cond begins os []) []) ≡ f b (if_clear k (cond begins os []) [])
-  run_alike (Refused r) begins os is = none a b
-  run_alike Clear true os is = some a b (is refl refl).0 (is refl refl).1 os
-  run_alike Clear false os is = none a b
+  run_alike (Err r) begins os is = none a b
+  run_alike (Ok tt) true os is = some a b (is refl refl).0 (is refl refl).1 os
+  run_alike (Ok tt) false os is = none a b

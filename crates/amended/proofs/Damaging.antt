@@ -10,8 +10,8 @@ use borrow.Author.Tests.{eq-eqb}
 use Rattle.general.proofs.Laws.{clash, by_bool}
 use Rattle.pieces.specs.Board.{good}
 use Rattle.calls.specs.declared.Refusal.TheVariants.{Damaged, Name, Weight}
-use Rattle.calls.specs.declared.Check.{Check}
-use Rattle.calls.specs.declared.Check.TheVariants.{Clear, Refused}
+use Rattle.calls.specs.Types.{Check}
+use Rattle.std.specs.Prelude.{Ok, Err}
 use Rattle.calls.specs.Refusals.{Asked, number_of, applies, first_of, refuse_if, zero_or, asked_output}
 use Rattle.calls.specs.Answers.{Answer, number_by}
 use Rattle.calls.proofs.Laws.{Within, covers, if_within, part_within, other_number, number_tells, ascending, first_lowest}
@@ -22,8 +22,8 @@ use Rattle.pieces.specs.Streams.{Stream}
 use Rattle.demands.proofs.Laws.{Sound, never_damaged}
 use Rattle.waiting.specs.declared.Order.{Order}
 use Rattle.waiting.specs.Layout.{full}
-use Rattle.orders.specs.declared.Way.{Way}
-use Rattle.orders.specs.declared.Way.TheVariants as way
+use Rattle.orders.specs.Types.{Way}
+use Rattle.orders.specs.declared.Moment.TheVariants as moment
 use Rattle.orders.specs.Checks.{order_check, must_wait, way_of}
 use Rattle.orders.specs.Results.{add_order, remove_order, taken_answer, changed_answer_by}
 use Rattle.orders.proofs.Laws.{now_start}
@@ -47,7 +47,7 @@ unfolding order_check zero_or
 fine_within C B o fine =
     let ns : List ℕ = 6 ∷ 7 ∷ [] in
     let weightless = cond (eqb o.kind 2) false (eqb o.weight 0) in
-    rw fine (if_within ns (eqb o.name 0) Name (refuse_if weightless Weight Clear) refl (if_within ns weightless Weight Clear refl refl))
+    rw fine (if_within ns (eqb o.name 0) Name (refuse_if weightless Weight (Ok tt)) refl (if_within ns weightless Weight (Ok tt) refl refl))
 
 -- nor is save
 ascends : (form : Sheets) → ascending 0 (form_of form).may ≡ true
@@ -56,8 +56,8 @@ ascends Pieces = save_pieces_ascending
 
 pub save_not : (form : Sheets) (k : Check) (q : Asked) → first_of (form_of form).may q ≡ k → not (good q.capacity q.board) ≡ false → number_by k ≡ 5 → ⊥
 unfolding applies
-save_not form Clear q e fine h = omega arith
-save_not form (Refused r) q e fine h =
+save_not form (Ok tt) q e fine h = omega arith
+save_not form (Err r) q e fine h =
     let d : r ≡ Damaged = number_tells r Damaged h in
     let a = (first_lowest 0 (form_of form).may q r (ascends form) e).0 in
     clash (rw d at a) fine
@@ -69,15 +69,15 @@ fines = 1 ∷ 2 ∷ 3 ∷ 6 ∷ 7 ∷ []
 module _ (u : State) (hs : List Stream) (is : Sound u hs) (L : List ℕ) where
   pub add_not : (x w : ℕ) (k : Way) → TakenBy fines u.drive k → (changed_answer_by k u.drive u.board L (add_order x w)).number ≡ 5 → ⊥
   unfolding zero_or
-  add_not x w (way.Refused r) t h = not_five fines (number_of r) (t.within r refl) refl h
-  add_not x w way.Wait t h = taken_not L h
-  add_not x w way.Now t h = never_damaged u hs is (Add x w) (ap (λ (a : Answer). a.number) (sym (add_says u x w)) ∙ h)
+  add_not x w (Err r) t h = not_five fines (number_of r) (t.within r refl) refl h
+  add_not x w (Ok moment.Later) t h = taken_not L h
+  add_not x w (Ok moment.Now) t h = never_damaged u hs is (Add x w) (ap (λ (a : Answer). a.number) (sym (add_says u x w)) ∙ h)
 
   pub remove_not : (x : ℕ) (k : Way) → TakenBy fines u.drive k → (changed_answer_by k u.drive u.board L (remove_order x)).number ≡ 5 → ⊥
   unfolding zero_or
-  remove_not x (way.Refused r) t h = not_five fines (number_of r) (t.within r refl) refl h
-  remove_not x way.Wait t h = taken_not L h
-  remove_not x way.Now t h = never_damaged u hs is (Remove x) (ap (λ (a : Answer). a.number) (sym (remove_says u x)) ∙ h)
+  remove_not x (Err r) t h = not_five fines (number_of r) (t.within r refl) refl h
+  remove_not x (Ok moment.Later) t h = taken_not L h
+  remove_not x (Ok moment.Now) t h = never_damaged u hs is (Remove x) (ap (λ (a : Answer). a.number) (sym (remove_says u x)) ∙ h)
 
 module _ (hs : List Stream) (s : Desk) (is : Standing hs s) where
   fine : good s.state.drive.capacity s.state.board ≡ true

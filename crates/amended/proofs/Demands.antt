@@ -11,7 +11,7 @@ use lib.Dec.{eqb, ltb}
 use lib.ListN.{length, get_or, replicate}
 use Rattle.sequences.specs.Scanning.{occurrences}
 use Rattle.pieces.specs.Board.{weight, piece_count}
-use Rattle.calls.specs.declared.Check.TheVariants.{Clear}
+use Rattle.std.specs.Prelude.{Ok}
 use Rattle.calls.specs.Refusals.{first_of, asked_add, admit_may}
 use Rattle.calls.specs.Results.{round_names}
 use Rattle.demands.specs.Histories.{Act, State, after, log}
@@ -24,7 +24,7 @@ use Rattle.waiting.specs.declared.Order.{Order}
 use Rattle.waiting.specs.Layout.{last_ticket, places_in, waiting}
 use Rattle.waiting.specs.Meaning.{InOrder}
 use Rattle.waiting.proofs.Laws.{free_in_order}
-use Rattle.orders.specs.declared.Way.TheVariants as way
+use Rattle.orders.specs.declared.Moment.TheVariants as moment
 use Rattle.orders.specs.Results.{add_order, remove_order, board_then}
 use Rattle.amended.specs.Carried.{acts_of, in_turn}
 use Rattle.amended.specs.Deeds.{Deed, Adds, Removes, Slots, Fetches, Refreshes, Desk, way_at, answers, leaves, leaves_all, restarts, plain, names_served, FullRound, tickets_told, CountUp}
@@ -133,11 +133,11 @@ module _ (s : Desk) (ready : Ready s) (deeds : List Deed) where
 
     -- It passes the checks beside ROOM if a round begins, it has a name and a weight, and nothing is held of the name;
     pub amended_others : (x w : ℕ) → turn.drive.position ≡ 1 → (x ≡ 0 → ⊥) → (w ≡ 0 → ⊥) → held_of x held_in_turn ≡ 0
-        → first_of admit_may (asked_add turn.drive turn.board x w) ≡ Clear
+        → first_of admit_may (asked_add turn.drive turn.board x w) ≡ Ok tt
     amended_others = turn_others desk'.state held' st.sound ahead
 
     -- and then it is refused for ROOM exactly when its weight exceeds C less the sum of the weights held, and else it is done. Refused so, it says that number.
-    pub amended_room : (x w : ℕ) → first_of admit_may (asked_add turn.drive turn.board x w) ≡ Clear
+    pub amended_room : (x w : ℕ) → first_of admit_may (asked_add turn.drive turn.board x w) ≡ Ok tt
         → ((in_turn desk'.state ahead (add_order x w)).number ≡ cond (ltb (C - total held_in_turn) w) 10 0)
         × ((in_turn desk'.state ahead (add_order x w)).number ≡ 10 → (in_turn desk'.state ahead (add_order x w)).values ≡ (C - total held_in_turn) ∷ [])
     amended_room = turn_room desk'.state held' st.sound ahead
@@ -147,7 +147,7 @@ module _ (s : Desk) (ready : Ready s) (deeds : List Deed) where
     amended_carried = turn_carried desk'.state held' st.sound ahead
 
   -- An add that is made at once is answered so, with none ahead of it.
-  pub amended_at_once : (x w : ℕ) → way_at (add_order x w) desk' ≡ way.Now → answers (Adds x w) desk' ≡ in_turn desk'.state [] (add_order x w)
+  pub amended_at_once : (x w : ℕ) → way_at (add_order x w) desk' ≡ Ok moment.Now → answers (Adds x w) desk' ≡ in_turn desk'.state [] (add_order x w)
   unfolding acts_of after
   amended_at_once x w e = add_made desk' x w e ∙ sym (add_says desk'.state x w)
 

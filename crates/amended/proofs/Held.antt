@@ -11,7 +11,7 @@ use Rattle.sequences.specs.Scanning.{occurrences}
 use Rattle.general.proofs.Laws.{by_bool}
 use Rattle.pieces.specs.Board.{weight, piece_count}
 use Rattle.pieces.proofs.Laws.{pieces_ones}
-use Rattle.calls.specs.declared.Check.TheVariants.{Clear}
+use Rattle.std.specs.Prelude.{Ok}
 use Rattle.calls.specs.Refusals.{first_of, asked_add, admit_may}
 use Rattle.calls.specs.Results.{slot_names, round_names}
 use Rattle.demands.specs.Histories.{Act, Add, Remove, State, after, log}
@@ -55,10 +55,10 @@ module _ (u : State) (hs : List Stream) (is : Sound u hs) where
     turn_sound = reached u hs is (acts_of ahead)
 
     pub turn_others : (x w : ℕ) → (after u (acts_of ahead)).drive.position ≡ 1 → (x ≡ 0 → ⊥) → (w ≡ 0 → ⊥) → held_of x (held_from hs (log u (acts_of ahead))) ≡ 0
-        → first_of admit_may (asked_add (after u (acts_of ahead)).drive (after u (acts_of ahead)).board x w) ≡ Clear
+        → first_of admit_may (asked_add (after u (acts_of ahead)).drive (after u (acts_of ahead)).board x w) ≡ Ok tt
     turn_others = others_pass turn then' turn_sound
 
-    pub turn_room : (x w : ℕ) → first_of admit_may (asked_add (after u (acts_of ahead)).drive (after u (acts_of ahead)).board x w) ≡ Clear
+    pub turn_room : (x w : ℕ) → first_of admit_may (asked_add (after u (acts_of ahead)).drive (after u (acts_of ahead)).board x w) ≡ Ok tt
         → ((in_turn u ahead (add_order x w)).number ≡ cond (ltb (u.drive.capacity - total (held_from hs (log u (acts_of ahead)))) w) 10 0)
         × ((in_turn u ahead (add_order x w)).number ≡ 10 → (in_turn u ahead (add_order x w)).values ≡ (u.drive.capacity - total (held_from hs (log u (acts_of ahead)))) ∷ [])
     unfolding carried_answer

@@ -10,8 +10,8 @@ use lib.ListN.{length, get_or}
 use borrow.Author.Tests.{eq-eqb}
 use Rattle.general.proofs.Laws.{clash, by_bool}
 use Rattle.calls.specs.declared.Drive.{Drive}
-use Rattle.calls.specs.declared.Check.{Check}
-use Rattle.calls.specs.declared.Check.TheVariants.{Clear, Refused}
+use Rattle.calls.specs.Types.{Check}
+use Rattle.std.specs.Prelude.{Ok, Err}
 use Rattle.calls.specs.Refusals.{number_of, is_clear, zero_or, add_check, remove_check}
 use Rattle.calls.specs.Answers.{Answer, number_by}
 use Rattle.calls.specs.Results.{if_clear}
@@ -23,8 +23,8 @@ use Rattle.waiting.specs.Carrying.{carried_all}
 use Rattle.waiting.specs.Meaning.{InOrder, Fits}
 use Rattle.waiting.specs.Fates as list
 use Rattle.waiting.proofs.Laws.{take_last, run_last, fetch_last, empty_last, empty_in_order, take_in_order, run_in_order, fetch_in_order, Stands, stands_taken, stands_take, stands_run, stands_fetch, stands_empty, stands_told}
-use Rattle.orders.specs.declared.Way.{Way}
-use Rattle.orders.specs.declared.Way.TheVariants as way
+use Rattle.orders.specs.Types.{Way}
+use Rattle.orders.specs.declared.Moment.TheVariants as moment
 use Rattle.orders.specs.Answers.{fetching_answer}
 use Rattle.orders.specs.Results.{add_order, remove_order, carried_answer, doing, saying, list_by, taken_answer, changed_answer_by, ran_list, list_if, list_then}
 use Rattle.orders.proofs.Laws.{kept_says}
@@ -40,13 +40,13 @@ use Rattle.amended.proofs.Projecting as projecting
 -- ---- the list stays in order
 
 pub order_in_order : (L : List ℕ) (o : Order) (k : Way) → InOrder L → InOrder (list_by k (taken_list L o) L)
-order_in_order L o (way.Refused r) is = is
-order_in_order L o way.Wait is = take_in_order L is o
-order_in_order L o way.Now is = is
+order_in_order L o (Err r) is = is
+order_in_order L o (Ok moment.Later) is = take_in_order L is o
+order_in_order L o (Ok moment.Now) is = is
 
 pub check_in_order : (k : Check) (F L : List ℕ) → InOrder F → InOrder L → InOrder (if_clear k F L)
-check_in_order Clear F L f l = f
-check_in_order (Refused r) F L f l = l
+check_in_order (Ok tt) F L f l = f
+check_in_order (Err r) F L f l = l
 
 pub if_in_order : (begins : Bool) (d : Drive) (B L : List ℕ) → InOrder L → InOrder (list_if begins d B L)
 unfolding ran_list
@@ -83,34 +83,34 @@ module _ (s : Desk) where
   abbrev B : List ℕ
   B = s.state.board
 
-  pub add_other : (x w : ℕ) (k : Way) → TakenBy firsts d k → (k ≡ way.Wait → ⊥) → eqb (changed_answer_by k d B s.list (add_order x w)).number 13 ≡ false
+  pub add_other : (x w : ℕ) (k : Way) → TakenBy firsts d k → (k ≡ Ok moment.Later → ⊥) → eqb (changed_answer_by k d B s.list (add_order x w)).number 13 ≡ false
   unfolding carried_answer zero_or
-  add_other x w (way.Refused r) t n = not_thirteen firsts (number_of r) (t.within r refl) refl
-  add_other x w way.Wait t n = absurd (n refl)
-  add_other x w way.Now t n = not_thirteen (1 ∷ 2 ∷ 3 ∷ 5 ∷ 6 ∷ 7 ∷ 8 ∷ 10 ∷ []) (number_by (add_check d B x w)) (add_within d B x w (t.first refl)) refl
+  add_other x w (Err r) t n = not_thirteen firsts (number_of r) (t.within r refl) refl
+  add_other x w (Ok moment.Later) t n = absurd (n refl)
+  add_other x w (Ok moment.Now) t n = not_thirteen (1 ∷ 2 ∷ 3 ∷ 5 ∷ 6 ∷ 7 ∷ 8 ∷ 10 ∷ []) (number_by (add_check d B x w)) (add_within d B x w (t.first refl)) refl
 
-  pub remove_other : (x : ℕ) (k : Way) → TakenBy remove_firsts d k → (k ≡ way.Wait → ⊥) → eqb (changed_answer_by k d B s.list (remove_order x)).number 13 ≡ false
+  pub remove_other : (x : ℕ) (k : Way) → TakenBy remove_firsts d k → (k ≡ Ok moment.Later → ⊥) → eqb (changed_answer_by k d B s.list (remove_order x)).number 13 ≡ false
   unfolding carried_answer zero_or
-  remove_other x (way.Refused r) t n = not_thirteen remove_firsts (number_of r) (t.within r refl) refl
-  remove_other x way.Wait t n = absurd (n refl)
-  remove_other x way.Now t n = not_thirteen (1 ∷ 2 ∷ 3 ∷ 5 ∷ 6 ∷ 9 ∷ []) (number_by (remove_check d B x)) (remove_within d B x (t.first refl)) refl
+  remove_other x (Err r) t n = not_thirteen remove_firsts (number_of r) (t.within r refl) refl
+  remove_other x (Ok moment.Later) t n = absurd (n refl)
+  remove_other x (Ok moment.Now) t n = not_thirteen (1 ∷ 2 ∷ 3 ∷ 5 ∷ 6 ∷ 9 ∷ []) (number_by (remove_check d B x)) (remove_within d B x (t.first refl)) refl
 
 -- what a change tells, and where the tickets then stand
 pub way_count : (a : Answer) (L : List ℕ) (o : Order) (k : Way) → 259 ≤ length L
-    → ((k ≡ way.Wait → ⊥) → eqb a.number 13 ≡ false) → (k ≡ way.Wait → a ≡ taken_answer L)
+    → ((k ≡ Ok moment.Later → ⊥) → eqb a.number 13 ≡ false) → (k ≡ Ok moment.Later → a ≡ taken_answer L)
     → (ts : List ℕ) → CountUp (last_ticket (list_by k (taken_list L o) L)) ts → CountUp (last_ticket L) (ticket_in a ++ ts)
 unfolding CountUp
-way_count a L o (way.Refused r) l n m ts c = rw (n (λ e. let z : ◌≡◌ {A = ℕ} 0 1 = cc in omega arith)) c
-way_count a L o way.Now l n m ts c = rw (n (λ e. let z : ◌≡◌ {A = ℕ} 0 1 = cc in omega arith)) c
-way_count a L o way.Wait l n m ts c = by_bool (full L)
+way_count a L o (Err r) l n m ts c = rw (n (λ e. cc)) c
+way_count a L o (Ok moment.Now) l n m ts c = rw (n (λ e. cc)) c
+way_count a L o (Ok moment.Later) l n m ts c = by_bool (full L)
     (λ f. rw (m refl, f) (rw f at c))
     (λ f.
     let t : last_ticket (taken_list L o) ≡ last_ticket L + 1 = take_last L l o ∙ rw f refl in
     rw (m refl, f) (refl, rw t at c))
 
 pub check_count : (k : Check) (F L : List ℕ) (ts : List ℕ) → last_ticket F ≡ last_ticket L → CountUp (last_ticket (if_clear k F L)) ts → CountUp (last_ticket L) ts
-check_count Clear F L ts e c = rw e at c
-check_count (Refused r) F L ts e c = c
+check_count (Ok tt) F L ts e c = rw e at c
+check_count (Err r) F L ts e c = c
 
 pub if_last : (begins : Bool) (d : Drive) (B L : List ℕ) → 259 ≤ length L → last_ticket (list_if begins d B L) ≡ last_ticket L
 unfolding ran_list
@@ -175,15 +175,15 @@ module _ (t : ℕ) (o : Order) (ahead : List Order) where
   still ψ s u e f = record { φ = f.φ; stands = rw e f.stands; same = f.same }
 
   pub order_follows : (ψ : Fate) (s u : Desk) (p : Order) (k : Way) → u.list ≡ list_by k (taken_list s.list p) s.list → Follows t o ahead ψ s → Follows t o ahead ψ u
-  order_follows ψ s u p (way.Refused r) e f = still ψ s u e f
-  order_follows ψ s u p way.Wait e f = record { φ = f.φ; stands = rw e (stands_take t o ahead f.φ s.list f.stands p); same = f.same }
-  order_follows ψ s u p way.Now e f = still ψ s u e f
+  order_follows ψ s u p (Err r) e f = still ψ s u e f
+  order_follows ψ s u p (Ok moment.Later) e f = record { φ = f.φ; stands = rw e (stands_take t o ahead f.φ s.list f.stands p); same = f.same }
+  order_follows ψ s u p (Ok moment.Now) e f = still ψ s u e f
 
   -- the list is emptied where the check finds nothing
   restart_follows : (ψ : Fate) (s u : Desk) (k : Check) → u.list ≡ if_clear k (emptied s.list) s.list → Follows t o ahead ψ s → Follows t o ahead (cond (is_clear k) Gone ψ) u
   unfolding in_numbers
-  restart_follows ψ s u Clear e f = record { φ = list.Gone; stands = rw e (stands_empty t o ahead f.φ s.list f.stands); same = refl }
-  restart_follows ψ s u (Refused r) e f = still ψ s u e f
+  restart_follows ψ s u (Ok tt) e f = record { φ = list.Gone; stands = rw e (stands_empty t o ahead f.φ s.list f.stands); same = refl }
+  restart_follows ψ s u (Err r) e f = still ψ s u e f
 
   -- a run answers the order in its turn
   ran_numbers : (r : Outcome) (φ : list.Fate) → in_numbers (list.ran r φ) ≡ ran (fetching_answer (answer_of r)) (in_numbers φ)
@@ -208,9 +208,9 @@ module _ (t : ℕ) (o : Order) (ahead : List Order) where
 
   pub slot_follows : (ψ : Fate) (s u : Desk) (k : Check) (begins : Bool) → u.list ≡ if_clear k (list_if begins s.state.drive s.state.board s.list) s.list
       → Follows t o ahead ψ s → Follows t o ahead (cond (is_clear k && begins) (ran (in_turn s.state ahead o) ψ) ψ) u
-  slot_follows ψ s u (Refused r) begins e f = still ψ s u e f
-  slot_follows ψ s u Clear true e f = run_follows ψ s u e f
-  slot_follows ψ s u Clear false e f = still ψ s u e f
+  slot_follows ψ s u (Err r) begins e f = still ψ s u e f
+  slot_follows ψ s u (Ok tt) true e f = run_follows ψ s u e f
+  slot_follows ψ s u (Ok tt) false e f = still ψ s u e f
 
   -- a fetch of its own ticket takes the answer
   handed_numbers : (φ : list.Fate) → in_numbers (list.handed_out φ) ≡ handed_out (in_numbers φ)
@@ -261,19 +261,19 @@ unfolding in_numbers
 taken_follows s o u is fits free e = record { φ = list.Waits; stands = rw e (stands_taken s.list o is free fits); same = refl }
 
 -- a change that answers 13 is on the list
-pub way_thirteen : (a : Answer) (L : List ℕ) (k : Way) → a.number ≡ 13 → ((k ≡ way.Wait → ⊥) → eqb a.number 13 ≡ false) → (k ≡ way.Wait → a ≡ taken_answer L)
-    → (k ≡ way.Wait) × (full L ≡ false)
-way_thirteen a L (way.Refused r) h n m = clash (eq-eqb a.number 13 h) (n (λ e. let z : ◌≡◌ {A = ℕ} 0 1 = cc in omega arith))
-way_thirteen a L way.Now h n m = clash (eq-eqb a.number 13 h) (n (λ e. let z : ◌≡◌ {A = ℕ} 0 1 = cc in omega arith))
-way_thirteen a L way.Wait h n m = (
+pub way_thirteen : (a : Answer) (L : List ℕ) (k : Way) → a.number ≡ 13 → ((k ≡ Ok moment.Later → ⊥) → eqb a.number 13 ≡ false) → (k ≡ Ok moment.Later → a ≡ taken_answer L)
+    → (k ≡ Ok moment.Later) × (full L ≡ false)
+way_thirteen a L (Err r) h n m = clash (eq-eqb a.number 13 h) (n (λ e. cc))
+way_thirteen a L (Ok moment.Now) h n m = clash (eq-eqb a.number 13 h) (n (λ e. cc))
+way_thirteen a L (Ok moment.Later) h n m = (
   refl,
   by_bool (full L)
       (λ f. let e : (taken_answer L).number ≡ 13 = ap (λ (b : Answer). b.number) (sym (m refl)) ∙ h in let g = rw f at e in absurd (omega arith))
       (λ f. f),
 )
 
-pub add_thirteen : (s : Desk) (x w : ℕ) → (answers (Adds x w) s).number ≡ 13 → (way_at (add_order x w) s ≡ way.Wait) × (full s.list ≡ false)
+pub add_thirteen : (s : Desk) (x w : ℕ) → (answers (Adds x w) s).number ≡ 13 → (way_at (add_order x w) s ≡ Ok moment.Later) × (full s.list ≡ false)
 add_thirteen s x w h = way_thirteen (answers (Adds x w) s) s.list (way_at (add_order x w) s) h (add_other s x w (way_at (add_order x w) s) (add_taken s x w)) (λ e. rw e refl)
 
-pub remove_thirteen : (s : Desk) (x : ℕ) → (answers (Removes x) s).number ≡ 13 → (way_at (remove_order x) s ≡ way.Wait) × (full s.list ≡ false)
+pub remove_thirteen : (s : Desk) (x : ℕ) → (answers (Removes x) s).number ≡ 13 → (way_at (remove_order x) s ≡ Ok moment.Later) × (full s.list ≡ false)
 remove_thirteen s x h = way_thirteen (answers (Removes x) s) s.list (way_at (remove_order x) s) h (remove_other s x (way_at (remove_order x) s) (remove_taken s x)) (λ e. rw e refl)

@@ -7,8 +7,8 @@ use Prim.Native.Nat.{ℕ}
 use lib.Dec.{eqb}
 use lib.ListN.{length, get_or}
 use Rattle.general.proofs.Laws.{by_bool}
-use Rattle.calls.specs.declared.Check.{Check}
-use Rattle.calls.specs.declared.Check.TheVariants.{Clear, Refused}
+use Rattle.calls.specs.Types.{Check}
+use Rattle.std.specs.Prelude.{Ok, Err}
 use Rattle.calls.specs.Answers.{answered}
 use Rattle.calls.specs.Results.{if_clear, moved_on, served_name, served_leaf, served_passed, served_round}
 use Rattle.calls.proofs.Laws.{number_some, not_clear}
@@ -17,8 +17,8 @@ use Rattle.demands.specs.Rounds.{names}
 use Rattle.demands.proofs.Laws.{state_at, after_append, names_append}
 use Rattle.waiting.specs.declared.Order.{Order}
 use Rattle.waiting.specs.Layout.{waiting}
-use Rattle.orders.specs.declared.Way.{Way}
-use Rattle.orders.specs.declared.Way.TheVariants as way
+use Rattle.orders.specs.Types.{Way}
+use Rattle.orders.specs.declared.Moment.TheVariants as moment
 use Rattle.orders.specs.Results.{add_order, remove_order, carried_board, ran_board, board_by, board_then}
 use Rattle.orders.proofs.Laws.{then_slot}
 use Rattle.amended.specs.Carried.{acts_of}
@@ -40,16 +40,16 @@ due_state s = by_bool (eqb s.state.drive.position 1)
 
 order_same : (s : State) (o : Order) (k : Way) → state_at s.drive (board_by k (carried_board s.drive s.board o) s.board) ≡ after s (made_by k o)
 unfolding after
-order_same s o (way.Refused r) = refl
-order_same s o way.Wait = refl
-order_same s o way.Now = sym (carry_one s.drive s.board o)
+order_same s o (Err r) = refl
+order_same s o (Ok moment.Later) = refl
+order_same s o (Ok moment.Now) = sym (carry_one s.drive s.board o)
 
 slot_same : (s : Desk) (k : Check) → first_checks s ≡ k
     → state_at (if_clear k (moved_on s.state.drive) s.state.drive) (if_clear k (board_then s.state.drive s.state.board s.list) s.state.board)
     ≡ after s.state (slot_by k (acts_of (due s)))
 unfolding after
-slot_same s (Refused r) e = refl
-slot_same s Clear e =
+slot_same s (Err r) e = refl
+slot_same s (Ok tt) e =
     let c = then_slot s.state.drive s.state.board s.list (length s.list) e in
     sym (after_append s.state (acts_of (due s)) (Slot ∷ [])
     ∙ ap (λ (t : State). does Slot t) (due_state s)
@@ -76,9 +76,9 @@ projected = projecting.projected leaves (λ s. s.state) stands_for (λ a s. rest
 
 order_names : (s : State) (o : Order) (k : Way) → [] ≡ names (log s (made_by k o))
 unfolding names log
-order_names s o (way.Refused r) = refl
-order_names s o way.Wait = refl
-order_names s o way.Now = sym (act_names s o)
+order_names s o (Err r) = refl
+order_names s o (Ok moment.Later) = refl
+order_names s o (Ok moment.Now) = sym (act_names s o)
 
 -- the slot that follows the list's orders says what the plain slot says
 slot_names : (s : Desk) (k : Check) → first_checks s ≡ k
@@ -86,8 +86,8 @@ slot_names : (s : Desk) (k : Check) → first_checks s ≡ k
     (get_or (answered k (served_name s.state.drive (ran_state s).board ∷ served_leaf s.state.drive ∷ served_passed s.state.drive ∷ served_round s.state.drive ∷ [])).values 0 0 ∷ []) []
     ≡ names (log s.state (slot_by k (acts_of (due s))))
 unfolding names log
-slot_names s (Refused r) e = rw (number_some r) refl
-slot_names s Clear e =
+slot_names s (Err r) e = rw (number_some r) refl
+slot_names s (Ok tt) e =
     let c = then_slot s.state.drive s.state.board s.list (length s.list) e in
     sym (names_append s.state (acts_of (due s)) (Slot ∷ [])
     ∙ rw (acts_names s.state (due s), due_state s, c) refl)
@@ -108,5 +108,5 @@ names_one Refreshes s e = refl
 -- ---- the answers
 
 -- a change that is made at once is answered what the plain call says
-pub add_made : (s : Desk) (x w : ℕ) → way_at (add_order x w) s ≡ way.Now → answers (Adds x w) s ≡ says (Add x w) s.state
+pub add_made : (s : Desk) (x w : ℕ) → way_at (add_order x w) s ≡ Ok moment.Now → answers (Adds x w) s ≡ says (Add x w) s.state
 add_made s x w e = rw e (add_says s.state x w)

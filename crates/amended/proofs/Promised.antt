@@ -3,17 +3,15 @@ use mathlib.Core.Path.{◌≡◌, ap}
 use mathlib.Core.List.{List}
 use Prim.Native.Nat.{ℕ}
 use Rattle.calls.specs.declared.Drive.{Drive}
-use Rattle.calls.specs.declared.Checked.{Checked}
-use Rattle.calls.specs.declared.Served.{Served}
-use Rattle.calls.specs.declared.Reported.{Reported}
+use Rattle.calls.specs.Types.{Checked, Served, Reported}
 use Rattle.calls.specs.Answers.{check_answer, serving_answer, report_answer}
 use Rattle.calls.specs.Promises.{Rounds, Reports, Refreshes}
-use Rattle.sheets.specs.declared.Saved.{Saved}
+use Rattle.sheets.specs.Types.{Saved}
 use Rattle.sheets.specs.Results.{saving_answer}
 use Rattle.sheets.specs.Promises.{Saves, SavesPieces}
-use Rattle.waiting.specs.declared.Fetching.{Fetching}
+use Rattle.waiting.specs.Types.{Fetching}
 use Rattle.waiting.specs.Promises.{Fetches}
-use Rattle.orders.specs.declared.Ordered.{Ordered}
+use Rattle.orders.specs.Types.{Ordered}
 use Rattle.orders.specs.Answers.{ordering_answer, fetching_answer}
 use Rattle.orders.specs.Results.{add_order, remove_order}
 use Rattle.orders.specs.Promises.{Opens, Loads, LoadsPieces, Orders, Serves}

@@ -5,8 +5,8 @@ use mathlib.Core.List.{List, [], ◌∷◌, ◌++◌}
 use Prim.Native.Nat.{ℕ, suc, ◌-◌}
 use native.Mathlib.Omega.{arith}
 use lib.ListN.{length, replicate}
-use Rattle.calls.specs.declared.Check.{Check}
-use Rattle.calls.specs.declared.Check.TheVariants.{Clear}
+use Rattle.calls.specs.Types.{Check}
+use Rattle.std.specs.Prelude.{Ok}
 use Rattle.demands.specs.Histories.{Act, Slot, State}
 use Rattle.pieces.specs.Streams.{Stream}
 use Rattle.demands.specs.Rounds.{names_from}
@@ -24,7 +24,7 @@ use Rattle.amended.proofs.Sounding.{Standing, standing_next}
 
 module _ (hs : List Stream) (s : Desk) (is : Standing hs s) where
   -- the first checks find nothing
-  pub first_clear : first_checks s ≡ Clear
+  pub first_clear : first_checks s ≡ Ok tt
   first_clear = bounds_clear s.state.drive s.state.board (length s.list) (slot_clear s.state is.sound.valid) is.long
 
   pub slot_served : (answers Slots s).number ≡ 0
@@ -50,7 +50,7 @@ slots_full hs s is first =
 
 -- ---- a full round is a plain full round from where the list has run
 
-pub clear_served : (k : Check) (before : List Act) → k ≡ Clear → slot_by k before ≡ before ++ (Slot ∷ [])
+pub clear_served : (k : Check) (before : List Act) → k ≡ Ok tt → slot_by k before ≡ before ++ (Slot ∷ [])
 clear_served k before e = rw e refl
 
 module _ (hs : List Stream) (s : Desk) (is : Standing hs s) (rest : List Deed) where

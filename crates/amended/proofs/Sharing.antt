@@ -11,8 +11,8 @@ use lib.ListN.{length}
 use Rattle.general.proofs.Laws.{by_bool}
 use Rattle.pieces.specs.Board.{good}
 use Rattle.calls.specs.declared.Drive.{Drive}
-use Rattle.calls.specs.declared.Check.{Check}
-use Rattle.calls.specs.declared.Check.TheVariants.{Clear, Refused}
+use Rattle.calls.specs.Types.{Check}
+use Rattle.std.specs.Prelude.{Ok, Err}
 use Rattle.calls.specs.Results.{if_clear}
 use Rattle.calls.specs.Answers.{Answer}
 use Rattle.calls.proofs.Laws.{is_clear_lem, either_length}
@@ -44,8 +44,8 @@ use Rattle.amended.proofs.Turning.{carries_alike, projected_one}
 
 look_held : (hs : List Stream) (u : State) (x : Act) (k : Check) → held_after x hs ≡ hs → held_from hs (log u (if_clear k (x ∷ []) [])) ≡ hs
 unfolding held_from log
-look_held hs u x Clear e = rw e (same_either (eqb (says x u).number 0) hs)
-look_held hs u x (Refused r) e = refl
+look_held hs u x (Ok tt) e = rw e (same_either (eqb (says x u).number 0) hs)
+look_held hs u x (Err r) e = refl
 
 alone_held : (hs : List Stream) (u : State) (a : Deed) (s : Pair) → held_from hs (log u (alone a s)) ≡ hs
 unfolding held_from log
@@ -160,26 +160,26 @@ standing_turned hs s is = record { own = is.other; other = is.own; same = sym is
 pub both_given : (a : Deed) (s : Pair) → one.restarts a (seen s) ≡ true → (leaves_own a s).other ≡ (leaves_own a s).own
 both_given (Opens C) s e = rw (is_clear_lem (open_checks (seen s) C) e) refl
 both_given (Reads form S) s e = rw (is_clear_lem (read_checks (seen s) form S) e) refl
-both_given (Adds x w) s e = let z : ◌≡◌ {A = ℕ} 0 1 = cc in absurd (omega arith)
-both_given (Removes x) s e = let z : ◌≡◌ {A = ℕ} 0 1 = cc in absurd (omega arith)
-both_given Slots s e = let z : ◌≡◌ {A = ℕ} 0 1 = cc in absurd (omega arith)
-both_given (Rounds O) s e = let z : ◌≡◌ {A = ℕ} 0 1 = cc in absurd (omega arith)
-both_given (Reports x) s e = let z : ◌≡◌ {A = ℕ} 0 1 = cc in absurd (omega arith)
-both_given (Saves form O) s e = let z : ◌≡◌ {A = ℕ} 0 1 = cc in absurd (omega arith)
-both_given (Fetches t) s e = let z : ◌≡◌ {A = ℕ} 0 1 = cc in absurd (omega arith)
-both_given Refreshes s e = let z : ◌≡◌ {A = ℕ} 0 1 = cc in absurd (omega arith)
+both_given (Adds x w) s e = cc
+both_given (Removes x) s e = cc
+both_given Slots s e = cc
+both_given (Rounds O) s e = cc
+both_given (Reports x) s e = cc
+both_given (Saves form O) s e = cc
+both_given (Fetches t) s e = cc
+both_given Refreshes s e = cc
 
 restart_seen : (a : Deed) (s : Pair) → 259 ≤ length s.list → one.restarts a (seen s) ≡ true → holding.Ready (seen (leaves_own a s))
 restart_seen (Opens C) s l e = restart_ready (Opens C) (seen s) l e
 restart_seen (Reads form S) s l e = restart_ready (Reads form S) (seen s) l e
-restart_seen (Adds x w) s l e = let z : ◌≡◌ {A = ℕ} 0 1 = cc in absurd (omega arith)
-restart_seen (Removes x) s l e = let z : ◌≡◌ {A = ℕ} 0 1 = cc in absurd (omega arith)
-restart_seen Slots s l e = let z : ◌≡◌ {A = ℕ} 0 1 = cc in absurd (omega arith)
-restart_seen (Rounds O) s l e = let z : ◌≡◌ {A = ℕ} 0 1 = cc in absurd (omega arith)
-restart_seen (Reports x) s l e = let z : ◌≡◌ {A = ℕ} 0 1 = cc in absurd (omega arith)
-restart_seen (Saves form O) s l e = let z : ◌≡◌ {A = ℕ} 0 1 = cc in absurd (omega arith)
-restart_seen (Fetches t) s l e = let z : ◌≡◌ {A = ℕ} 0 1 = cc in absurd (omega arith)
-restart_seen Refreshes s l e = let z : ◌≡◌ {A = ℕ} 0 1 = cc in absurd (omega arith)
+restart_seen (Adds x w) s l e = cc
+restart_seen (Removes x) s l e = cc
+restart_seen Slots s l e = cc
+restart_seen (Rounds O) s l e = cc
+restart_seen (Reports x) s l e = cc
+restart_seen (Saves form O) s l e = cc
+restart_seen (Fetches t) s l e = cc
+restart_seen Refreshes s l e = cc
 
 -- a call that begins anew
 pub restart_standing : (a : Deed) (s : Pair) → 259 ≤ length s.list → one.restarts a (seen s) ≡ true → Standing (on_board (shown (leaves_own a s))) (leaves_own a s)

@@ -11,7 +11,7 @@ use borrow.Author.Tests.{ne_eqb, eqb-true}
 use Rattle.general.proofs.Laws.{by_bool}
 use Rattle.pieces.specs.Board.{weight}
 use Rattle.calls.specs.declared.Drive.{Drive}
-use Rattle.calls.specs.declared.Check.TheVariants.{Clear}
+use Rattle.std.specs.Prelude.{Ok, Err}
 use Rattle.calls.specs.Records.{drive_at}
 use Rattle.calls.specs.Results.{idle_board}
 use Rattle.calls.proofs.Laws.{is_clear_lem, open_clear, open_sized, slot_parts, either_length, slot_first}
@@ -26,8 +26,8 @@ use Rattle.waiting.specs.declared.Order.{Order}
 use Rattle.waiting.specs.Layout.{waiting, taken_list, emptied}
 use Rattle.waiting.specs.Carrying.{outcomes}
 use Rattle.waiting.proofs.Laws.{take_length, run_length, fetch_length, empty_length}
-use Rattle.orders.specs.declared.Way.{Way}
-use Rattle.orders.specs.declared.Way.TheVariants as way
+use Rattle.orders.specs.Types.{Way}
+use Rattle.orders.specs.declared.Moment.TheVariants as moment
 use Rattle.orders.specs.Results.{add_order, remove_order, doing, saying, list_by, ran_list, list_if, list_then}
 use Rattle.orders.proofs.Laws.{lent_open, read_accepts, read_pieces_accepts}
 use Rattle.amended.specs.Deeds.{Sheets, Leaves, Pieces, Deed, Opens, Reads, Adds, Removes, Slots, Rounds, Reports, Saves, Fetches, Refreshes, Desk, open_checks, read_checks, first_checks, way_at, leaves, leaves_all, list_after, restarts, stands_for}
@@ -74,9 +74,9 @@ ready_sound s is = record {
 -- ---- the list keeps its length
 
 pub by_way : (L : List ℕ) (o : Order) (k : Way) → length (list_by k (taken_list L o) L) ≡ length L
-by_way L o (way.Refused r) = refl
-by_way L o way.Wait = take_length L o
-by_way L o way.Now = refl
+by_way L o (Err r) = refl
+by_way L o (Ok moment.Later) = take_length L o
+by_way L o (Ok moment.Now) = refl
 
 pub if_length : (begins : Bool) (d : Drive) (B L : List ℕ) → length (list_if begins d B L) ≡ length L
 unfolding ran_list
@@ -98,7 +98,7 @@ list_length (Fetches t) s = fetch_length s.list t
 
 -- ---- an open or a read that is done leaves a desk to begin with
 
-opened_ready : (s : Desk) (C : ℕ) → 259 ≤ length s.list → open_checks s C ≡ Clear → Ready (leaves (Opens C) s)
+opened_ready : (s : Desk) (C : ℕ) → 259 ≤ length s.list → open_checks s C ≡ Ok tt → Ready (leaves (Opens C) s)
 opened_ready s C l e =
     let z = open_clear C s.state.board (lent_open C s.state.board (length s.list) e) in
     let o = opened C s.state.board (record { some = z.some; few = z.few; long = z.long }) in
@@ -108,7 +108,7 @@ opened_ready s C l e =
       long = let n = list_length (Opens C) s in omega arith;
     }
 
-read_ready : (s : Desk) (form : Sheets) (S : List ℕ) → 259 ≤ length s.list → read_checks s form S ≡ Clear → Ready (leaves (Reads form S) s)
+read_ready : (s : Desk) (form : Sheets) (S : List ℕ) → 259 ≤ length s.list → read_checks s form S ≡ Ok tt → Ready (leaves (Reads form S) s)
 read_ready s Leaves S l e =
     let a = (read_accepts S s.state.board s.list e).1 in
     record {
@@ -129,14 +129,14 @@ read_ready s Pieces S l e =
 pub restart_ready : (a : Deed) (s : Desk) → 259 ≤ length s.list → restarts a s ≡ true → Ready (leaves a s)
 restart_ready (Opens C) s l e = opened_ready s C l (is_clear_lem (open_checks s C) e)
 restart_ready (Reads form S) s l e = read_ready s form S l (is_clear_lem (read_checks s form S) e)
-restart_ready (Adds x w) s l e = let z : ◌≡◌ {A = ℕ} 0 1 = cc in absurd (omega arith)
-restart_ready (Removes x) s l e = let z : ◌≡◌ {A = ℕ} 0 1 = cc in absurd (omega arith)
-restart_ready Slots s l e = let z : ◌≡◌ {A = ℕ} 0 1 = cc in absurd (omega arith)
-restart_ready (Rounds O) s l e = let z : ◌≡◌ {A = ℕ} 0 1 = cc in absurd (omega arith)
-restart_ready (Reports x) s l e = let z : ◌≡◌ {A = ℕ} 0 1 = cc in absurd (omega arith)
-restart_ready Refreshes s l e = let z : ◌≡◌ {A = ℕ} 0 1 = cc in absurd (omega arith)
-restart_ready (Saves form O) s l e = let z : ◌≡◌ {A = ℕ} 0 1 = cc in absurd (omega arith)
-restart_ready (Fetches t) s l e = let z : ◌≡◌ {A = ℕ} 0 1 = cc in absurd (omega arith)
+restart_ready (Adds x w) s l e = cc
+restart_ready (Removes x) s l e = cc
+restart_ready Slots s l e = cc
+restart_ready (Rounds O) s l e = cc
+restart_ready (Reports x) s l e = cc
+restart_ready Refreshes s l e = cc
+restart_ready (Saves form O) s l e = cc
+restart_ready (Fetches t) s l e = cc
 
 -- ---- any calls
 

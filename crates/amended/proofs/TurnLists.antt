@@ -9,7 +9,8 @@ use lib.ListN.{length}
 use Rattle.waiting.specs.declared.Order.{Order}
 use Rattle.waiting.specs.Layout.{last_ticket, full}
 use Rattle.waiting.specs.Meaning.{InOrder}
-use Rattle.orders.specs.declared.Way.TheVariants as way
+use Rattle.orders.specs.declared.Moment.TheVariants as moment
+use Rattle.std.specs.Prelude.{Ok}
 use Rattle.orders.specs.Results.{add_order, remove_order}
 use Rattle.drives.specs.Checks.{both_start}
 use Rattle.drives.specs.Results.{list_then}
@@ -111,10 +112,10 @@ module _ (t : ℕ) (o : Order) (ahead : List Order) where
       (projecting.ever leaves (fate_next t o ahead) (λ φ u. Follows t o ahead φ (seen u)) follows_next ψ s f between)
 
 -- a change that answers 13 is on the list
-pub add_thirteen : (s : Pair) (x w : ℕ) → (answers_own (Adds x w) s).number ≡ 13 → (way_at (add_order x w) s ≡ way.Wait) × (full s.list ≡ false)
+pub add_thirteen : (s : Pair) (x w : ℕ) → (answers_own (Adds x w) s).number ≡ 13 → (way_at (add_order x w) s ≡ Ok moment.Later) × (full s.list ≡ false)
 add_thirteen s x w h =
     way_thirteen (answers_own (Adds x w) s) s.list (way_at (add_order x w) s) h (add_other (seen s) x w (way_at (add_order x w) s) (add_taken s x w)) (λ e. rw e refl)
 
-pub remove_thirteen : (s : Pair) (x : ℕ) → (answers_own (Removes x) s).number ≡ 13 → (way_at (remove_order x) s ≡ way.Wait) × (full s.list ≡ false)
+pub remove_thirteen : (s : Pair) (x : ℕ) → (answers_own (Removes x) s).number ≡ 13 → (way_at (remove_order x) s ≡ Ok moment.Later) × (full s.list ≡ false)
 remove_thirteen s x h =
     way_thirteen (answers_own (Removes x) s) s.list (way_at (remove_order x) s) h (remove_other (seen s) x (way_at (remove_order x) s) (remove_taken s x)) (λ e. rw e refl)

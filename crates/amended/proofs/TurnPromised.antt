@@ -4,13 +4,11 @@ use mathlib.Core.Path.{◌≡◌, ap}
 use mathlib.Core.List.{List}
 use Prim.Native.Nat.{ℕ}
 use Rattle.calls.specs.declared.Drive.{Drive}
-use Rattle.calls.specs.declared.Served.{Served}
-use Rattle.calls.specs.declared.Checked.{Checked}
-use Rattle.calls.specs.declared.Reported.{Reported}
+use Rattle.calls.specs.Types.{Served, Checked, Reported}
 use Rattle.calls.specs.Answers.{serving_answer, check_answer, report_answer}
-use Rattle.sheets.specs.declared.Saved.{Saved}
+use Rattle.sheets.specs.Types.{Saved}
 use Rattle.sheets.specs.Results.{saving_answer}
-use Rattle.orders.specs.declared.Ordered.{Ordered}
+use Rattle.orders.specs.Types.{Ordered}
 use Rattle.orders.specs.Answers.{ordering_answer}
 use Rattle.orders.specs.Results.{add_order, remove_order}
 use Rattle.drives.specs.Promises.{Orders, Serves, Rounds, Reports, Saves, SavesPieces, Refreshes}

@@ -7,8 +7,8 @@ use Prim.Native.Nat.{ℕ, suc, ◌-◌}
 use native.Mathlib.Omega.{arith}
 use lib.ListN.{length, replicate}
 use borrow.Author.Tests.{le-ltb}
-use Rattle.calls.specs.declared.Check.{Check}
-use Rattle.calls.specs.declared.Check.TheVariants.{Clear}
+use Rattle.calls.specs.Types.{Check}
+use Rattle.std.specs.Prelude.{Ok}
 use Rattle.calls.specs.Records.{round_after}
 use Rattle.calls.specs.Results.{if_clear}
 use Rattle.demands.specs.Histories.{Act, Slot, State, after, log}
@@ -40,14 +40,14 @@ due_turned s = rw (start_swap s.other s.own) refl
 
 module _ (hs : List Stream) (s : Pair) (is : Standing hs s) where
   -- the first checks find nothing
-  pub look_clear : look_checks s ≡ Clear
+  pub look_clear : look_checks s ≡ Ok tt
   look_clear = clear_pair s.own s.other s.board (slot_clear (shown s) is.own.valid) (slot_clear (shown (exchanged s)) is.other.valid) is.same
 
-  pub first_clear : first_checks s ≡ Clear
+  pub first_clear : first_checks s ≡ Ok tt
   first_clear = rw (le-ltb (length s.list) 259 is.long) look_clear
 
   -- nor do those of the fresh layout, where both drives are at the start of a round
-  pub fresh_clear : both_start s.own s.other ≡ true → fresh_checks s ≡ Clear
+  pub fresh_clear : both_start s.own s.other ≡ true → fresh_checks s ≡ Ok tt
   unfolding pair_fresh_check start_check
   fresh_clear t = rw (look_clear, t) (fresh_passes (shown s) hs is.own (start_both s.own s.other t).0)
 
@@ -84,7 +84,7 @@ slots_full hs s is first =
 
 -- ---- a full round is a plain full round from where the list has run
 
-pub clear_stands : (s : Pair) (k : Check) → k ≡ Clear → acts_of (if_clear k (due s) []) ++ if_clear k (Slot ∷ []) [] ≡ acts_of (due s) ++ (Slot ∷ [])
+pub clear_stands : (s : Pair) (k : Check) → k ≡ Ok tt → acts_of (if_clear k (due s) []) ++ if_clear k (Slot ∷ []) [] ≡ acts_of (due s) ++ (Slot ∷ [])
 clear_stands s k e = rw e refl
 
 module _ (hs : List Stream) (s : Pair) (is : Standing hs s) (rest : List Turn) (full : FullRound s rest) where

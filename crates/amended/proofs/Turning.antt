@@ -8,8 +8,8 @@ use Prim.Native.Nat.{ℕ}
 use lib.ListN.{length}
 use Rattle.general.proofs.Laws.{clash, by_bool}
 use Rattle.calls.specs.declared.Drive.{Drive}
-use Rattle.calls.specs.declared.Check.{Check}
-use Rattle.calls.specs.declared.Check.TheVariants.{Clear, Refused}
+use Rattle.calls.specs.Types.{Check}
+use Rattle.std.specs.Prelude.{Ok, Err}
 use Rattle.calls.specs.Refusals.{slot_check}
 use Rattle.calls.specs.Answers.{answered}
 use Rattle.calls.specs.Results.{if_clear, moved_on, served_name, served_leaf, served_passed, served_round, refreshed_board}
@@ -20,8 +20,8 @@ use Rattle.demands.proofs.Laws.{state_at, after_append, names_append}
 use Rattle.waiting.specs.declared.Order.{Order}
 use Rattle.waiting.specs.Layout.{too_short, waiting}
 use Rattle.waiting.specs.Carrying.{carried_all}
-use Rattle.orders.specs.declared.Way.{Way}
-use Rattle.orders.specs.declared.Way.TheVariants as way
+use Rattle.orders.specs.Types.{Way}
+use Rattle.orders.specs.declared.Moment.TheVariants as moment
 use Rattle.orders.specs.Results.{add_order, remove_order, carried_board, doing, ran_board, board_by}
 use Rattle.orders.proofs.Laws.{if_slot}
 use Rattle.drives.specs.Checks.{both_start}
@@ -67,9 +67,9 @@ ran_state s = state_at s.own (ran_board_of s)
 
 way_board : (d : Drive) (B : List ℕ) (o : Order) (k : Way) → board_by k (carried_board d B o) B ≡ carried_all (doing d) B (if_now k o)
 unfolding carried_all
-way_board d B o (way.Refused r) = refl
-way_board d B o way.Wait = refl
-way_board d B o way.Now = refl
+way_board d B o (Err r) = refl
+way_board d B o (Ok moment.Later) = refl
+way_board d B o (Ok moment.Now) = refl
 
 due_board : (s : Pair) → carried_all (doing s.own) s.board (due s) ≡ ran_board_of s
 unfolding due board_then ran_board carried_all
@@ -77,8 +77,8 @@ due_board s = by_bool (both_start s.own s.other) (λ t. rw t refl) (λ f. rw f r
 
 slot_board : (s : Pair) (k : Check) → if_clear k (ran_board_of s) s.board ≡ carried_all (doing s.own) s.board (if_clear k (due s) [])
 unfolding carried_all
-slot_board s Clear = sym (due_board s)
-slot_board s (Refused r) = refl
+slot_board s (Ok tt) = sym (due_board s)
+slot_board s (Err r) = refl
 
 own_board : (a : Deed) (s : Pair) → one.restarts a (seen s) ≡ false → lays_out a s ≡ false → (leaves_own a s).board ≡ carried_all (doing s.own) s.board (carries_out a s)
 unfolding carried_all
@@ -157,20 +157,20 @@ due_state s = carry_all s.own s.board (due s) ∙ ap (state_at s.own) (due_board
 
 -- ---- what a call is beside: an act of its own drive
 
-then_slot : (s : Pair) → first_checks s ≡ Clear → slot_check s.own (ran_board_of s) ≡ Clear
+then_slot : (s : Pair) → first_checks s ≡ Ok tt → slot_check s.own (ran_board_of s) ≡ Ok tt
 unfolding board_then
 then_slot s e = if_slot (both_start s.own s.other) s.own s.board s.list (pair_vouch s.own s.other s.board (length s.list) e).0
 
 slot_alone : (s : Pair) (k : Check) → first_checks s ≡ k
     → after (state_at s.own (if_clear k (ran_board_of s) s.board)) (if_clear k (Slot ∷ []) []) ≡ state_at (if_clear k (moved_on s.own) s.own) (if_clear k (ran_board_of s) s.board)
 unfolding after
-slot_alone s Clear e = rw (then_slot s e) refl
-slot_alone s (Refused r) e = refl
+slot_alone s (Ok tt) e = rw (then_slot s e) refl
+slot_alone s (Err r) e = refl
 
 look_alone : (u : State) (x : Act) (k : Check) → does x u ≡ u → after u (if_clear k (x ∷ []) []) ≡ u
 unfolding after
-look_alone u x Clear e = e
-look_alone u x (Refused r) e = refl
+look_alone u x (Ok tt) e = e
+look_alone u x (Err r) e = refl
 
 own_alone : (a : Deed) (s : Pair) → one.restarts a (seen s) ≡ false → after (state_at s.own (leaves_own a s).board) (alone a s) ≡ shown (leaves_own a s)
 unfolding after
@@ -204,13 +204,13 @@ slot_names : (s : Pair) (k : Check) → first_checks s ≡ k
     → name_in (answered k (served_name s.own (ran_board_of s) ∷ served_leaf s.own ∷ served_passed s.own ∷ served_round s.own ∷ []))
     ≡ names (log (state_at s.own (if_clear k (ran_board_of s) s.board)) (if_clear k (Slot ∷ []) []))
 unfolding names log
-slot_names s (Refused r) e = rw (number_some r) refl
-slot_names s Clear e = rw (then_slot s e) refl
+slot_names s (Err r) e = rw (number_some r) refl
+slot_names s (Ok tt) e = rw (then_slot s e) refl
 
 look_names : (u : State) (x : Act) (k : Check) → names (log u (x ∷ [])) ≡ [] → [] ≡ names (log u (if_clear k (x ∷ []) []))
 unfolding names log
-look_names u x Clear e = sym e
-look_names u x (Refused r) e = refl
+look_names u x (Ok tt) e = sym e
+look_names u x (Err r) e = refl
 
 own_names : (a : Deed) (s : Pair) → name_own a s ≡ names (log (state_at s.own (leaves_own a s).board) (alone a s))
 unfolding names log

@@ -12,7 +12,7 @@ use lib.Dec.{ltb}
 use lib.ListN.{length, replicate}
 use Rattle.sequences.specs.Scanning.{occurrences}
 use Rattle.pieces.specs.Board.{weight, piece_count}
-use Rattle.calls.specs.declared.Check.TheVariants.{Clear}
+use Rattle.std.specs.Prelude.{Ok}
 use Rattle.calls.specs.Records.{round_after}
 use Rattle.calls.specs.Refusals.{first_of, asked_add, admit_may}
 use Rattle.calls.specs.Results.{round_names}
@@ -24,7 +24,7 @@ use Rattle.demands.specs.Stretches.{PowerOfTwo, PowerFair, StillFair}
 use Rattle.waiting.specs.declared.Order.{Order}
 use Rattle.waiting.specs.Layout.{last_ticket, waiting}
 use Rattle.waiting.specs.Meaning.{InOrder}
-use Rattle.orders.specs.declared.Way.TheVariants as way
+use Rattle.orders.specs.declared.Moment.TheVariants as moment
 use Rattle.orders.specs.Results.{add_order, remove_order}
 use Rattle.drives.specs.Checks.{both_start, start_check, pair_fresh_check}
 use Rattle.drives.specs.Results.{board_then}
@@ -170,11 +170,11 @@ module _ (s : Pair) (ready : Ready s) (turns : List Turn) (f : Which) where
 
     -- It passes the checks beside ROOM if a round begins, it has a name and a weight, and nothing is held of the name;
     pub two_others : (x w : ℕ) → turn.drive.position ≡ 1 → (x ≡ 0 → ⊥) → (w ≡ 0 → ⊥) → held_of x held_in_turn ≡ 0
-        → first_of admit_may (asked_add turn.drive turn.board x w) ≡ Clear
+        → first_of admit_may (asked_add turn.drive turn.board x w) ≡ Ok tt
     two_others = turn_others (shown pair') held' st.own ahead
 
     -- and then it is refused for ROOM exactly when its weight exceeds C less the sum of the weights held, and else it is done. Refused so, it says that number.
-    pub two_room : (x w : ℕ) → first_of admit_may (asked_add turn.drive turn.board x w) ≡ Clear
+    pub two_room : (x w : ℕ) → first_of admit_may (asked_add turn.drive turn.board x w) ≡ Ok tt
         → ((in_turn (shown pair') ahead (add_order x w)).number ≡ cond (ltb (C - total held_in_turn) w) 10 0)
         × ((in_turn (shown pair') ahead (add_order x w)).number ≡ 10 → (in_turn (shown pair') ahead (add_order x w)).values ≡ (C - total held_in_turn) ∷ [])
     two_room = turn_room (shown pair') held' st.own ahead
@@ -184,7 +184,7 @@ module _ (s : Pair) (ready : Ready s) (turns : List Turn) (f : Which) where
     two_carried = turn_carried (shown pair') held' st.own ahead
 
   -- An add that is made at once is answered so, with none ahead of it.
-  pub two_at_once : (x w : ℕ) → way_at (add_order x w) pair' ≡ way.Now → answers_own (Adds x w) pair' ≡ in_turn (shown pair') [] (add_order x w)
+  pub two_at_once : (x w : ℕ) → way_at (add_order x w) pair' ≡ Ok moment.Now → answers_own (Adds x w) pair' ≡ in_turn (shown pair') [] (add_order x w)
   unfolding acts_of after
   two_at_once x w e = rw e refl
 

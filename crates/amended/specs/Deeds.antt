@@ -2,11 +2,10 @@
 -- the order of arrival, before the slot. An order that goes on the list, one that finds no place, a refusal, a save and a fetch stand for no call. An open or
 -- a read that is done begins a history of its own.
 -- Assumes nothing.
-use Rattle.std.specs.Prelude.{◌≡◌, Bool, false, cond, ◌&&◌, List, [], ◌∷◌, ◌++◌, ℕ, ◌+◌, eqb, length, get_or}
+use Rattle.std.specs.Prelude.{◌≡◌, Bool, false, cond, ◌&&◌, List, [], ◌∷◌, ◌++◌, ℕ, ◌+◌, eqb, length, get_or, Ok, Err}
 use Rattle.calls.specs.Refusals.{is_clear}
 use Rattle.calls.specs.declared.Drive.{Drive}
-use Rattle.calls.specs.declared.Check.{Check}
-use Rattle.calls.specs.declared.Check.TheVariants.{Clear, Refused}
+use Rattle.calls.specs.Types.{Check}
 use Rattle.calls.specs.Answers.{Answer}
 use Rattle.calls.specs.Results.{if_clear}
 use Rattle.sheets.specs.Forms.{Form, saved_as, saved_answer_as}
@@ -14,8 +13,8 @@ use Rattle.sheets.specs.Results.{leaf_form, piece_form}
 use Rattle.demands.specs.Histories.{Act, Slot, Round, Report, Fresh, State, does, says}
 use Rattle.waiting.specs.declared.Order.{Order}
 use Rattle.waiting.specs.Layout.{waiting, fetched, fetched_list}
-use Rattle.orders.specs.declared.Way.{Way}
-use Rattle.orders.specs.declared.Way.TheVariants as way
+use Rattle.orders.specs.Types.{Way}
+use Rattle.orders.specs.declared.Moment.TheVariants as moment
 use Rattle.orders.specs.Answers.{fetching_answer}
 use Rattle.orders.specs.Checks.{lent_check, bounds_check, reading_check, way_of}
 use Rattle.orders.specs.Results.{add_order, remove_order, changed, changed_answer, changed_board, changed_list, served, served_answer, served_board, served_list, opened, opened_answer, opened_board, opened_list, loaded_as, loaded_answer_as, loaded_board_as, loaded_list_as}
@@ -168,14 +167,14 @@ due s = cond (eqb s.state.drive.position 1) (waiting s.list) []
 
 -- The plain calls that a call stands for.
 abbrev pub made_by : Way → Order → List Act
-made_by (way.Refused r) o = []
-made_by way.Wait o = []
-made_by way.Now o = act_of o
+made_by (Err r) o = []
+made_by (Ok moment.Later) o = []
+made_by (Ok moment.Now) o = act_of o
 
 -- A slot that is refused stands for nothing, any other for the changes that it carries out before and itself.
 abbrev pub slot_by : Check → List Act → List Act
-slot_by (Refused r) before = []
-slot_by Clear before = before ++ (Slot ∷ [])
+slot_by (Err r) before = []
+slot_by (Ok tt) before = before ++ (Slot ∷ [])
 
 abbrev pub stands_for : Deed → Desk → List Act
 stands_for (Opens C) s = []

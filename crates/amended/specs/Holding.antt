@@ -1,8 +1,7 @@
 -- What is held, as request No. 2 amends it: a stream is held from the moment its add is carried out until its remove is.
 -- Assumes nothing.
-use Rattle.std.specs.Prelude.{◌≡◌, true, cond, List, [], ◌∷◌, ℕ, zero, suc, ◌≤◌, eqb, length, get_or}
+use Rattle.std.specs.Prelude.{◌≡◌, true, cond, List, [], ◌∷◌, ℕ, zero, suc, ◌≤◌, eqb, length, get_or, Ok}
 use Rattle.pieces.specs.Board.{good}
-use Rattle.calls.specs.declared.Check.TheVariants.{Clear}
 use Rattle.calls.specs.Refusals.{slot_check}
 use Rattle.demands.specs.Histories.{State, log}
 use Rattle.pieces.specs.Streams.{Stream}
@@ -35,6 +34,6 @@ held_then hs s = held_from hs (log s.state (acts_of (due s)))
 -- A desk that a history may begin with: the record and the board pass slot's checks, the board is good, the list is long enough. Every open and every read
 -- that is done leaves such a desk.
 pub record Ready (s : Desk) : Type 0 where
-  pub clear : slot_check s.state.drive s.state.board ≡ Clear
+  pub clear : slot_check s.state.drive s.state.board ≡ Ok tt
   pub fine : good s.state.drive.capacity s.state.board ≡ true
   pub long : 259 ≤ length s.list

@@ -1,6 +1,6 @@
 -- What demand 1 says of the calls with the list, as request No. 2 amends it.
 -- Assumes nothing.
-use Rattle.std.specs.Prelude.{◌≡◌, Bool, true, false, cond, List, [], ◌∷◌, ℕ, ◌+◌, eqb}
+use Rattle.std.specs.Prelude.{◌≡◌, Bool, true, false, cond, List, [], ◌∷◌, ℕ, ◌+◌, eqb, Ok, Err}
 use Rattle.pieces.specs.Board.{weight}
 use Rattle.calls.specs.declared.Drive.{Drive}
 use Rattle.calls.specs.Records.{drive_at}
@@ -9,8 +9,8 @@ use Rattle.calls.specs.Answers.{Answer}
 use Rattle.calls.specs.Results.{rounded_output}
 use Rattle.demands.specs.Refusing.{zeros}
 use Rattle.sheets.specs.Forms.{saved_output_as}
-use Rattle.waiting.specs.declared.Fetching.{Fetching}
-use Rattle.waiting.specs.declared.Fetching.TheVariants as fetching
+use Rattle.waiting.specs.Types.{Fetching}
+use Rattle.waiting.specs.declared.Unfetched.TheVariants as unfetched
 use Rattle.waiting.specs.Layout.{last_ticket, fetched}
 use Rattle.amended.specs.Deeds.{form_of, Deed, Opens, Reads, Adds, Removes, Slots, Rounds, Reports, Saves, Fetches, Refreshes, Desk, answers, returned, board_after, list_after}
 
@@ -29,9 +29,9 @@ may_answer Refreshes = 1 ∷ 2 ∷ 3 ∷ 4 ∷ 5 ∷ []
 
 -- A call is done: it answers 0; a fetch, that it hands an answer out, whatever that says.
 abbrev pub hands_out : Fetching → Bool
-hands_out (fetching.Answer n v) = true
-hands_out (fetching.Waits t) = false
-hands_out fetching.Unknown = false
+hands_out (Ok said) = true
+hands_out (Err (unfetched.Waits t)) = false
+hands_out (Err unfetched.Unknown) = false
 
 abbrev pub is_done : Deed → Desk → Bool
 is_done (Opens C) s = eqb (answers (Opens C) s).number 0

@@ -1,8 +1,7 @@
 -- What the demands say of two drives on one board: demand 1 of a call, what is held, which is one thing for both drives, and what becomes of an order.
 -- Assumes nothing.
-use Rattle.std.specs.Prelude.{◌≡◌, Bool, true, cond, List, [], ℕ, eqb, length}
+use Rattle.std.specs.Prelude.{◌≡◌, Bool, true, cond, List, [], ℕ, eqb, length, Ok}
 use Rattle.pieces.specs.Board.{good}
-use Rattle.calls.specs.declared.Check.TheVariants.{Clear}
 use Rattle.demands.specs.Histories.{log}
 use Rattle.pieces.specs.Streams.{Stream}
 use Rattle.demands.specs.Holdings.{held_from}
@@ -70,7 +69,7 @@ held_then hs s = held_from hs (log (shown s) (acts_of (due s)))
 
 -- What a history may begin with: records, board and list pass slot's checks, and the board is good. Every open and every read that is done leaves such.
 pub record Ready (s : Pair) : Type 0 where
-  pub clear : first_checks s ≡ Clear
+  pub clear : first_checks s ≡ Ok tt
   pub fine : good s.own.capacity s.board ≡ true
 
 -- ---- what becomes of an order: t is its ticket, o the order, `ahead` the orders that waited when it was taken

@@ -2,17 +2,17 @@
 -- orders that either drive's calls carry out, the fresh layouts of either, and its own slots, rounds and reports. What the other drive sees is the
 -- same with the records exchanged. An open or a read that is done gives both drives its record, and begins a history of its own.
 -- Assumes nothing.
-use Rattle.std.specs.Prelude.{◌≡◌, Bool, false, cond, ◌&&◌, List, [], ◌∷◌, ◌++◌, ℕ, eqb, length, get_or}
+use Rattle.std.specs.Prelude.{◌≡◌, Bool, false, cond, ◌&&◌, List, [], ◌∷◌, ◌++◌, ℕ, eqb, length, get_or, Ok, Err}
 use Rattle.calls.specs.Refusals.{is_clear}
 use Rattle.calls.specs.declared.Drive.{Drive}
-use Rattle.calls.specs.declared.Check.{Check}
+use Rattle.calls.specs.Types.{Check}
 use Rattle.calls.specs.Answers.{Answer}
 use Rattle.calls.specs.Results.{if_clear}
 use Rattle.demands.specs.Histories.{Act, Slot, Round, Report, Fresh, State}
 use Rattle.waiting.specs.declared.Order.{Order}
 use Rattle.waiting.specs.Layout.{waiting}
-use Rattle.orders.specs.declared.Way.{Way}
-use Rattle.orders.specs.declared.Way.TheVariants as way
+use Rattle.orders.specs.Types.{Way}
+use Rattle.orders.specs.declared.Moment.TheVariants as moment
 use Rattle.orders.specs.Results.{add_order, remove_order}
 use Rattle.drives.specs.Checks.{list_check, look_check, both_start, way_of, pair_save_check, pair_pieces_check, pair_fresh_check}
 use Rattle.drives.specs.Results.{changed, changed_answer, changed_board, changed_list, served, served_answer, served_board, served_list, rounded, rounded_answer, reported, reported_answer, saved_by, saved_answer_by, refreshed, refreshed_answer, refreshed_board}
@@ -184,9 +184,9 @@ due s = cond (both_start s.own s.other) (waiting s.list) []
 
 -- The orders that a call of the own drive carries out: these are acts of both drives.
 abbrev pub if_now : Way → Order → List Order
-if_now (way.Refused r) o = []
-if_now way.Wait o = []
-if_now way.Now o = o ∷ []
+if_now (Err r) o = []
+if_now (Ok moment.Later) o = []
+if_now (Ok moment.Now) o = o ∷ []
 
 abbrev pub carries_out : Deed → Pair → List Order
 carries_out (Opens C) s = []

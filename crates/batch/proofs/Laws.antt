@@ -10,7 +10,7 @@ use Rattle.general.proofs.Laws.{unique, by_bool}
 use Rattle.calls.specs.declared.Drive.{Drive}
 use Rattle.calls.specs.Answers.{Answer}
 use Rattle.waiting.specs.declared.Order.{Order}
-use Rattle.orders.specs.declared.Ordered.{Ordered}
+use Rattle.orders.specs.Types.{Ordered}
 use Rattle.orders.specs.Answers.{ordering_answer}
 use Rattle.orders.specs.Results.{add_order, remove_order}
 use Rattle.orders.specs.Checks as one_checks

@@ -1,13 +1,13 @@
 -- A table of changes for two drives: what an entry asks for, what stands in the place for its answer, and what a whole table leaves. Everything is said by
 -- what the single calls return and leave. a is the record of the drive that the table is for, b that of the other.
 -- Assumes nothing.
-use Rattle.std.specs.Prelude.{cond, List, [], ◌∷◌, ℕ, eqb, get_or}
+use Rattle.std.specs.Prelude.{cond, List, [], ◌∷◌, ℕ, eqb, get_or, Err}
 use Rattle.calls.specs.declared.Drive.{Drive}
 use Rattle.calls.specs.declared.Refusal.TheVariants.{Weight}
 use Rattle.calls.specs.Answers.{Answer}
 use Rattle.waiting.specs.declared.Order.{Order}
-use Rattle.orders.specs.declared.Ordered.{Ordered}
-use Rattle.orders.specs.declared.Ordering.TheVariants as ordering
+use Rattle.orders.specs.Types.{Ordered}
+use Rattle.orders.specs.declared.Declined.TheVariants as declined
 use Rattle.orders.specs.Answers.{ordering_answer}
 use Rattle.orders.specs.Results.{add_order, remove_order}
 use Rattle.drives.specs.Results.{changed, changed_board, changed_list}
@@ -22,7 +22,7 @@ by_kind kind add remove none = cond (eqb kind 1) add (cond (eqb kind 2) remove n
 
 -- A kind that is none is answered 7, whatever else is wrong.
 abbrev pub unknown_kind : Drive → Ordered
-unknown_kind a = record { drive = a; answer = ordering.Refused Weight }
+unknown_kind a = record { drive = a; answer = Err (declined.Refused Weight) }
 
 -- What the single call returns, and what it leaves of the board and of the list.
 unfoldable pub ordered : Drive → Drive → List ℕ → List ℕ → Entry → Ordered

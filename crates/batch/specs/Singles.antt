@@ -5,7 +5,7 @@ use Rattle.std.specs.Prelude.{◌≡◌, List, [], ◌∷◌, ℕ}
 use Rattle.calls.specs.declared.Drive.{Drive}
 use Rattle.calls.specs.Answers.{Answer}
 use Rattle.waiting.specs.declared.Order.{Order}
-use Rattle.orders.specs.declared.Ordered.{Ordered}
+use Rattle.orders.specs.Types.{Ordered}
 use Rattle.orders.specs.Answers.{ordering_answer}
 use Rattle.orders.specs.Results.{add_order, remove_order}
 use Rattle.batch.specs.declared.Entry.{Entry}

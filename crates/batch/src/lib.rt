@@ -4,13 +4,15 @@
 
 ghost use Rattle.std.specs.Prelude.{◌≡◌};
 ghost use Rattle.orders.specs.Answers.{ordering_answer};
-ghost use Rattle.batch.specs.Entries.{ordered, ordered_board, ordered_list, answering, noted};
+ghost use Rattle.batch.specs.Entries.{ordered, ordered_board, ordered_list, noted};
 ghost use Rattle.batch.specs.Promises as promises;
 
-use calls::{Drive, Refusal};
-use orders::{Ordered, Ordering};
+use calls::{Drive, Refusal, Returned};
+use orders::{Accepted, Declined, Ordered};
+use waiting::Order;
 
-// An entry: what is asked for, and the place for its answer, a number and a value. The value has room for a ticket.
+// An entry: what is asked for, and the place for its answer, a number and a value. The value has room for a ticket. C lends entries and reads them, so
+// a kind and an answer's number are numbers.
 #[repr(C)]
 #[derive(Clone, Copy)]
 pub struct Entry {
@@ -23,61 +25,61 @@ pub struct Entry {
 
 impl Entry {
     // The kinds.
-    pub const ADD: u16 = 1;
+    pub const ADD: u16 = Order::ADD;
 
-    pub const REMOVE: u16 = 2;
+    pub const REMOVE: u16 = Order::REMOVE;
+
+    // The numbers of the answers that are no `Refusal`.
+    const DONE: u16 = 0;
+
+    const WAITING: u16 = 13;
+
+    const QUEUE: u16 = 14;
 }
 
-// What an entry leaves of the record and of itself.
+// What an entry leaves of the record and of itself. No `Returned`: what comes back beside the record is no answer, but what was asked, with one.
 #[derive(Clone, Copy)]
 pub struct Carried {
     pub drive: Drive,
     pub entry: Entry,
 }
 
-// The entry with a number and a value in the place for its answer.
-fn answered(entry: Entry, number: u16, value: u64) -> Entry
-    ensures { result ≡ answering entry number value }
-{
-    Entry {
-        kind: entry.kind,
-        name: entry.name,
-        weight: entry.weight,
-        number,
-        value,
-    }
-}
-
 // The entry with the answer of a change.
-pub fn note(entry: Entry, answer: Ordering) -> Entry
+pub fn note(entry: Entry, answer: Result<Accepted, Declined>) -> Entry
     ensures { result ≡ noted entry (ordering_answer answer) }
 {
-    match answer {
-        Ordering::Done(idle) => answered(entry, 0, idle as u64),
-        Ordering::Room(idle) => answered(entry, 10, idle as u64),
-        Ordering::Waiting(ticket) => answered(entry, 13, ticket),
-        Ordering::Queue => answered(entry, 14, 0),
-        Ordering::Refused(why) => answered(entry, why.number(), 0),
+    let (number, value) = match answer {
+        Ok(Accepted::Done(idle)) => (Entry::DONE, idle as u64),
+        Ok(Accepted::Waiting(ticket)) => (Entry::WAITING, ticket),
+        Err(Declined::Room(idle)) => (Refusal::Room.number(), idle as u64),
+        Err(Declined::Queue) => (Entry::QUEUE, 0),
+        Err(Declined::Refused(why)) => (why.number(), 0),
+    };
+    Entry {
+        number,
+        value,
+        ..entry
     }
 }
 
-// The single call that an entry asks for. A kind that is none is refused before anything is looked at.
+// The single call that an entry asks for. A kind that is none is refused before anything is looked at. This and the next have their like in `share_batch`, where
+// other slices are lent and another kind is known: one function over both would need a trait of three calls for two uses.
+#[tactic(auto, unfolding(crate::specs::Entries::ordered, crate::specs::Entries::ordered_board, crate::specs::Entries::ordered_list))]
 fn order(own: Drive, other: Drive, board: &mut [u16], list: &mut [u64], entry: Entry) -> Ordered
     ensures { (result ≡ ordered own other board.old list.old entry) × (board.new ≡ ordered_board own other board.old list.old entry) × (list.new ≡ ordered_list own other board.old list.old entry) }
 {
-    if entry.kind == Entry::ADD {
-        return drives::add(own, other, board, list, entry.name, entry.weight);
-    }
-    if entry.kind == Entry::REMOVE {
-        return drives::remove(own, other, board, list, entry.name);
-    }
-    Ordered {
-        drive: own,
-        answer: Ordering::Refused(Refusal::Weight),
+    match entry.kind {
+        Entry::ADD => drives::add(own, other, board, list, entry.name, entry.weight),
+        Entry::REMOVE => drives::remove(own, other, board, list, entry.name),
+        _ => Returned {
+            drive: own,
+            answer: Err(Declined::Refused(Refusal::Weight)),
+        },
     }
 }
 
 // Carries out one entry.
+#[tactic(auto, unfolding(crate::specs::Entries::carried))]
 pub fn carry_entry(
     own: Drive,
     other: Drive,
@@ -88,10 +90,8 @@ pub fn carry_entry(
     ensures { promises.Carries own other board.old list.old entry result board.new list.new }
 {
     let ordered = order(own, other, board, list, entry);
-    let drive = ordered.drive;
-    let answer = ordered.answer;
     Carried {
-        drive,
-        entry: note(entry, answer),
+        drive: ordered.drive,
+        entry: note(entry, ordered.answer),
     }
 }

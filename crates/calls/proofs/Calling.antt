@@ -10,8 +10,8 @@ use borrow.Author.Tests.{eq-eqb, eqb-true}
 use Rattle.general.proofs.Laws.{clash, both, by_bool}
 use Rattle.calls.specs.declared.Refusal.{Refusal}
 use Rattle.calls.specs.declared.Refusal.TheVariants.{Capacity, Short, Position, Midround, Damaged, Name, Weight, Taken, Absent, Room, Output, Block}
-use Rattle.calls.specs.declared.Check.{Check}
-use Rattle.calls.specs.declared.Check.TheVariants.{Clear, Refused}
+use Rattle.calls.specs.Types.{Check}
+use Rattle.std.specs.Prelude.{Ok, Err}
 use Rattle.calls.specs.Refusals.{Asked, number_of, applies, first_of, refuse_if, and_then, is_clear, zero_or, numbers, among}
 use Rattle.calls.specs.Answers.{Answer, number_by}
 use Rattle.calls.specs.Results.{if_clear}
@@ -45,27 +45,27 @@ number_tells r q e = sym (numbered r).0 ∙ ap refusal_of e ∙ (numbered q).0
 -- ---- a refusal leaves everything as it was
 
 -- 0 where the checks find nothing, and only there
-pub clear_number : (k : Check) → number_by k ≡ 0 → k ≡ Clear
-clear_number Clear e = refl
-clear_number (Refused r) e = clash (eq-eqb (number_of r) 0 e) (number_some r)
+pub clear_number : (k : Check) → number_by k ≡ 0 → k ≡ Ok tt
+clear_number (Ok tt) e = refl
+clear_number (Err r) e = clash (eq-eqb (number_of r) 0 e) (number_some r)
 
 -- by the test: checks that are clear found nothing, and others a refusal
-pub is_clear_lem : (k : Check) → is_clear k ≡ true → k ≡ Clear
-is_clear_lem Clear e = refl
-is_clear_lem (Refused r) e = clash e refl
+pub is_clear_lem : (k : Check) → is_clear k ≡ true → k ≡ Ok tt
+is_clear_lem (Ok tt) e = refl
+is_clear_lem (Err r) e = clash e refl
 
-pub not_clear : (k : Check) → is_clear k ≡ false → (r : Refusal) × (k ≡ Refused r)
-not_clear Clear e = clash refl e
-not_clear (Refused r) e = (r, refl)
+pub not_clear : (k : Check) → is_clear k ≡ false → (r : Refusal) × (k ≡ Err r)
+not_clear (Ok tt) e = clash refl e
+not_clear (Err r) e = (r, refl)
 
 -- what a call leaves, whatever its checks find, where both are alike
 pub either_same : (k : Check) (X : List ℕ) → if_clear k X X ≡ X
-either_same Clear X = refl
-either_same (Refused r) X = refl
+either_same (Ok tt) X = refl
+either_same (Err r) X = refl
 
 pub either_length : (k : Check) (D B : List ℕ) → length D ≡ length B → length (if_clear k D B) ≡ length B
-either_length Clear D B h = h
-either_length (Refused r) D B h = refl
+either_length (Ok tt) D B h = h
+either_length (Err r) D B h = refl
 
 -- an answer that refuses: its number is not 0
 abbrev pub Refuses : Answer → Type 0
@@ -75,9 +75,9 @@ pub refuses : {a b : Answer} → a ≡ b → Refuses a → Refuses b
 refuses e h z = h (ap (λ (a : Answer). a.number) e ∙ z)
 
 -- the checks of a call that refuses found a refusal; with it every definition of what the call leaves computes
-pub refusal : (k : Check) → (number_by k ≡ 0 → ⊥) → (r : Refusal) × (k ≡ Refused r)
-refusal Clear h = absurd (h refl)
-refusal (Refused r) h = (r, refl)
+pub refusal : (k : Check) → (number_by k ≡ 0 → ⊥) → (r : Refusal) × (k ≡ Err r)
+refusal (Ok tt) h = absurd (h refl)
+refusal (Err r) h = (r, refl)
 
 -- ---- only the numbers of a list
 
@@ -117,8 +117,8 @@ first_among rs a = within_among rs (first_of rs a) (first_within rs a)
 -- checks that are made of parts
 module _ (ns : List ℕ) where
   pub then_within : (j k : Check) → Within ns j → Within ns k → Within ns (and_then j k)
-  then_within Clear k m n = n
-  then_within (Refused r) k m n = m
+  then_within (Ok tt) k m n = n
+  then_within (Err r) k m n = m
 
   pub if_within : (b : Bool) (r : Refusal) (k : Check) → zero_or (number_of r) ns ≡ true → Within ns k → Within ns (refuse_if b r k)
   if_within true r k m n = m
@@ -147,5 +147,5 @@ part_within ms ns k c e = wider (number_by k) ms ns c e
 pub other_number : (ns : List ℕ) (n m : ℕ) → zero_or n ns ≡ true → zero_or m ns ≡ false → eqb n m ≡ false
 other_number ns n m e f = by_bool (eqb n m) (λ t. clash (rw (eqb-true n m t) at e) f) (λ t. t)
 
-pub never_within : (ns : List ℕ) (k : Check) (r : Refusal) → Within ns k → zero_or (number_of r) ns ≡ false → k ≡ Refused r → ⊥
+pub never_within : (ns : List ℕ) (k : Check) (r : Refusal) → Within ns k → zero_or (number_of r) ns ≡ false → k ≡ Err r → ⊥
 never_within ns k r e n q = clash (rw q at e) n

@@ -18,8 +18,8 @@ use Rattle.pieces.proofs.Laws.{weight_le}
 use Rattle.calls.specs.declared.Drive.{Drive}
 use Rattle.calls.specs.declared.Refusal.{Refusal}
 use Rattle.calls.specs.declared.Refusal.TheVariants.{Position, Midround, Damaged, Name, Weight, Taken, Absent, Room, Output}
-use Rattle.calls.specs.declared.Check.{Check}
-use Rattle.calls.specs.declared.Check.TheVariants.{Clear, Refused}
+use Rattle.calls.specs.Types.{Check}
+use Rattle.std.specs.Prelude.{Ok, Err}
 use Rattle.calls.specs.Refusals.{Asked, applies, refuse_if, first_of, asked, open_check, add_check, admit_check, remove_check, slot_check, change_check, round_check, report_check, position_check, good_check, held_check, new_check, asked_open, asked_add, asked_name, asked_output, open_may, add_may, admit_may, remove_may, slot_may, change_may, round_may, report_may, and_then}
 use Rattle.calls.specs.Records.{drive_at}
 
@@ -61,7 +61,7 @@ module _ (d : Drive) (B : List ℕ) where
   unfolding admit_check change_check new_check
   admit_parts x w = first_next change_may (Name ∷ Weight ∷ Taken ∷ []) (asked_add d B x w)
 
-  pub add_parts : (x w : ℕ) → add_check d B x w ≡ and_then (admit_check d B x w) (refuse_if (ltb (weight d.capacity B 0) w) Room Clear)
+  pub add_parts : (x w : ℕ) → add_check d B x w ≡ and_then (admit_check d B x w) (refuse_if (ltb (weight d.capacity B 0) w) Room (Ok tt))
   unfolding add_check admit_check
   add_parts x w = first_next admit_may (Room ∷ []) (asked_add d B x w)
 
@@ -69,7 +69,7 @@ module _ (d : Drive) (B : List ℕ) where
   unfolding remove_check change_check held_check
   remove_parts x = first_next change_may (Name ∷ Absent ∷ []) (asked_name d B x)
 
-  pub round_parts : (n : ℕ) → round_check d B n ≡ and_then (slot_check d B) (refuse_if (ltb n d.capacity) Output Clear)
+  pub round_parts : (n : ℕ) → round_check d B n ≡ and_then (slot_check d B) (refuse_if (ltb n d.capacity) Output (Ok tt))
   unfolding round_check slot_check
   round_parts n = first_next slot_may (Output ∷ []) (asked_output d B n d.capacity)
 
@@ -79,20 +79,20 @@ module _ (d : Drive) (B : List ℕ) where
       ∙ rw (first_next (Damaged ∷ []) (Name ∷ Absent ∷ []) (asked_name d B x))
 
 -- two parts find nothing where each does
-pub first_clear : (j k : Check) → and_then j k ≡ Clear → j ≡ Clear
-first_clear Clear k e = refl
-first_clear (Refused r) k e = e
+pub first_clear : (j k : Check) → and_then j k ≡ Ok tt → j ≡ Ok tt
+first_clear (Ok tt) k e = refl
+first_clear (Err r) k e = e
 
-pub then_clear : (j k : Check) → and_then j k ≡ Clear → k ≡ Clear
-then_clear Clear k e = e
-then_clear (Refused r) k e = let z : ◌≡◌ {A = ℕ} 0 1 = cc in absurd (omega arith)
+pub then_clear : (j k : Check) → and_then j k ≡ Ok tt → k ≡ Ok tt
+then_clear (Ok tt) k e = e
+then_clear (Err r) k e = let z : ◌≡◌ {A = ℕ} 0 1 = cc in absurd (omega arith)
 
 -- a part that finds nothing changes nothing
-pub then_none : (k : Check) → and_then k Clear ≡ k
-then_none Clear = refl
-then_none (Refused r) = refl
+pub then_none : (k : Check) → and_then k (Ok tt) ≡ k
+then_none (Ok tt) = refl
+then_none (Err r) = refl
 
-pub refuse_clear : (b : Bool) (r : Refusal) (k : Check) → refuse_if b r k ≡ Clear → (b ≡ false) × (k ≡ Clear)
+pub refuse_clear : (b : Bool) (r : Refusal) (k : Check) → refuse_if b r k ≡ Ok tt → (b ≡ false) × (k ≡ Ok tt)
 refuse_clear true r k e = let z : ◌≡◌ {A = ℕ} 0 1 = cc in absurd (omega arith)
 refuse_clear false r k e = (refl, e)
 
@@ -102,7 +102,7 @@ unfoldable pub Passed : List Refusal → Asked → Type 0
 Passed [] a = Unit {0}
 Passed (r ∷ rs) a = (applies r a ≡ false) × Passed rs a
 
-pub passed : (rs : List Refusal) (a : Asked) → first_of rs a ≡ Clear → Passed rs a
+pub passed : (rs : List Refusal) (a : Asked) → first_of rs a ≡ Ok tt → Passed rs a
 unfolding Passed first_of
 passed [] a e = tt
 passed (r ∷ rs) a e = let f = refuse_clear (applies r a) r (first_of rs a) e in (f.0, passed rs a f.1)
@@ -113,7 +113,7 @@ pub record Sized (C : ℕ) (B : List ℕ) : Type 0 where
   pub few : C ≤ 4095
   pub long : C ≤ length B
 
-pub open_clear : (C : ℕ) (B : List ℕ) → open_check C B ≡ Clear → Sized C B
+pub open_clear : (C : ℕ) (B : List ℕ) → open_check C B ≡ Ok tt → Sized C B
 unfolding open_check Passed
 open_clear C B e =
     let f = passed open_may (asked_open C B) e in
@@ -121,30 +121,30 @@ open_clear C B e =
     let n = eqb-false C 0 g.0 in
     record { some = omega arith; few = ltb-false 4095 C g.1; long = ltb-false (length B) C f.1.0 }
 
-pub open_sized : (C : ℕ) (B : List ℕ) → Sized C B → open_check C B ≡ Clear
+pub open_sized : (C : ℕ) (B : List ℕ) → Sized C B → open_check C B ≡ Ok tt
 unfolding open_check
 open_sized C B s =
     let nonzero : C ≡ 0 → ⊥ = λ e. omega (arith, s.some) in
     rw (ne_eqb C 0 nonzero, le-ltb 4095 C s.few, le-ltb (length B) C s.long)
 
 -- the position where a round starts is in range
-pub position_first : (C : ℕ) → 0 < C → position_check C 1 ≡ Clear
+pub position_first : (C : ℕ) → 0 < C → position_check C 1 ≡ Ok tt
 unfolding position_check
 position_first C some = rw (le-ltb (2 ^ sequences.digits C - 1) 1 (omega (arith, digits_lt C)))
 
-pub slot_first : (C : ℕ) (B : List ℕ) → Sized C B → slot_check (drive_at C 1) B ≡ Clear
+pub slot_first : (C : ℕ) (B : List ℕ) → Sized C B → slot_check (drive_at C 1) B ≡ Ok tt
 slot_first C B is = slot_parts (drive_at C 1) B ∙ rw (open_sized C B is) (position_first C is.some)
 
 -- the checks of a slot look at no leaf
-pub slot_long : (d : Drive) (B D : List ℕ) → length D ≡ length B → slot_check d B ≡ Clear → slot_check d D ≡ Clear
+pub slot_long : (d : Drive) (B D : List ℕ) → length D ≡ length B → slot_check d B ≡ Ok tt → slot_check d D ≡ Ok tt
 unfolding slot_check
 slot_long d B D e h = rw e h
 
 module _ (d : Drive) (B : List ℕ) where
-  pub slot_sized : slot_check d B ≡ Clear → Sized d.capacity B
+  pub slot_sized : slot_check d B ≡ Ok tt → Sized d.capacity B
   slot_sized e = open_clear d.capacity B (first_clear _ _ (sym (slot_parts d B) ∙ e))
 
-  pub slot_position : slot_check d B ≡ Clear → sequences.Position d.capacity d.position
+  pub slot_position : slot_check d B ≡ Ok tt → sequences.Position d.capacity d.position
   unfolding slot_check Passed
   slot_position e =
       let s = slot_sized e in
@@ -155,22 +155,22 @@ module _ (d : Drive) (B : List ℕ) where
       let z = pow_pos (sequences.digits d.capacity) in
       record { some = s.some; few = omega arith; first = omega arith; last = omega arith }
 
-  pub change_slot : change_check d B ≡ Clear → slot_check d B ≡ Clear
+  pub change_slot : change_check d B ≡ Ok tt → slot_check d B ≡ Ok tt
   change_slot e = first_clear _ _ (sym (change_parts d B) ∙ e)
 
-  pub change_start : change_check d B ≡ Clear → d.position ≡ 1
+  pub change_start : change_check d B ≡ Ok tt → d.position ≡ 1
   unfolding change_check Passed
   change_start e = eqb-true d.position 1 (not-false (eqb d.position 1) (passed change_may (asked d B) e).1.1.1.0)
 
-  pub change_good : change_check d B ≡ Clear → good d.capacity B ≡ true
+  pub change_good : change_check d B ≡ Ok tt → good d.capacity B ≡ true
   unfolding change_check Passed
   change_good e = not-false (good d.capacity B) (passed change_may (asked d B) e).1.1.1.1.0
 
-  pub admit_change : (x w : ℕ) → admit_check d B x w ≡ Clear → change_check d B ≡ Clear
+  pub admit_change : (x w : ℕ) → admit_check d B x w ≡ Ok tt → change_check d B ≡ Ok tt
   admit_change x w e = first_clear _ _ (sym (admit_parts d B x w) ∙ e)
 
   -- what the search for room asks
-  pub admit_clear : (x w : ℕ) → admit_check d B x w ≡ Clear → Admissible d.capacity B x
+  pub admit_clear : (x w : ℕ) → admit_check d B x w ≡ Ok tt → Admissible d.capacity B x
   unfolding admit_check Passed
   admit_clear x w e =
       let c = admit_change x w e in
@@ -179,17 +179,17 @@ module _ (d : Drive) (B : List ℕ) where
       let t = ltb-false 0 (weight d.capacity B x) f.1.1.0 in
       record { small = s.few; long = s.long; sound = change_good c; named = eqb-false x 0 f.0; absent = omega arith }
 
-  pub add_admit : (x w : ℕ) → add_check d B x w ≡ Clear → admit_check d B x w ≡ Clear
+  pub add_admit : (x w : ℕ) → add_check d B x w ≡ Ok tt → admit_check d B x w ≡ Ok tt
   add_admit x w e = first_clear _ _ (sym (add_parts d B x w) ∙ e)
 
-  pub add_change : (x w : ℕ) → add_check d B x w ≡ Clear → change_check d B ≡ Clear
+  pub add_change : (x w : ℕ) → add_check d B x w ≡ Ok tt → change_check d B ≡ Ok tt
   add_change x w e = admit_change x w (add_admit x w e)
 
   -- what placing asks
-  pub add_clear : (x w : ℕ) → add_check d B x w ≡ Clear → Placeable d.capacity B x w
+  pub add_clear : (x w : ℕ) → add_check d B x w ≡ Ok tt → Placeable d.capacity B x w
   add_clear x w e =
       let a = admit_clear x w (add_admit x w e) in
-      let f = refuse_clear (ltb (weight d.capacity B 0) w) Room Clear (then_clear (admit_check d B x w) _ (sym (add_parts d B x w) ∙ e)) in
+      let f = refuse_clear (ltb (weight d.capacity B 0) w) Room (Ok tt) (then_clear (admit_check d B x w) _ (sym (add_parts d B x w) ∙ e)) in
       record {
         small = a.small;
         long = a.long;
@@ -199,15 +199,15 @@ module _ (d : Drive) (B : List ℕ) where
         room = ltb-false (weight d.capacity B 0) w f.0;
       }
 
-  pub add_weight : (x w : ℕ) → add_check d B x w ≡ Clear → zero < w
+  pub add_weight : (x w : ℕ) → add_check d B x w ≡ Ok tt → zero < w
   unfolding add_check Passed
   add_weight x w e = let n = eqb-false w 0 (passed add_may (asked_add d B x w) e).1.1.1.1.1.1.0 in omega arith
 
-  pub remove_change : (x : ℕ) → remove_check d B x ≡ Clear → change_check d B ≡ Clear
+  pub remove_change : (x : ℕ) → remove_check d B x ≡ Ok tt → change_check d B ≡ Ok tt
   remove_change x e = first_clear _ _ (sym (remove_parts d B x) ∙ e)
 
   -- what removing asks
-  pub remove_clear : (x : ℕ) → remove_check d B x ≡ Clear → Removable d.capacity B x
+  pub remove_clear : (x : ℕ) → remove_check d B x ≡ Ok tt → Removable d.capacity B x
   unfolding remove_check Passed
   remove_clear x e =
       let c = remove_change x e in
@@ -215,24 +215,24 @@ module _ (d : Drive) (B : List ℕ) where
       let f = (passed remove_may (asked_name d B x) e).1.1.1.1.1 in
       record { small = s.few; long = s.long; sound = change_good c; named = eqb-false x 0 f.0 }
 
-  pub remove_held : (x : ℕ) → remove_check d B x ≡ Clear → weight d.capacity B x ≡ 0 → ⊥
+  pub remove_held : (x : ℕ) → remove_check d B x ≡ Ok tt → weight d.capacity B x ≡ 0 → ⊥
   unfolding remove_check Passed
   remove_held x e = eqb-false (weight d.capacity B x) 0 (passed remove_may (asked_name d B x) e).1.1.1.1.1.1.0
 
-  pub round_slot : (n : ℕ) → round_check d B n ≡ Clear → slot_check d B ≡ Clear
+  pub round_slot : (n : ℕ) → round_check d B n ≡ Ok tt → slot_check d B ≡ Ok tt
   round_slot n e = first_clear _ _ (sym (round_parts d B n) ∙ e)
 
-  pub round_room : (n : ℕ) → round_check d B n ≡ Clear → d.capacity ≤ n
+  pub round_room : (n : ℕ) → round_check d B n ≡ Ok tt → d.capacity ≤ n
   unfolding round_check Passed
   round_room n e = ltb-false n d.capacity (passed round_may (asked_output d B n d.capacity) e).1.1.1.0
 
-  pub report_slot : (x : ℕ) → report_check d B x ≡ Clear → slot_check d B ≡ Clear
+  pub report_slot : (x : ℕ) → report_check d B x ≡ Ok tt → slot_check d B ≡ Ok tt
   report_slot x e = first_clear _ _ (sym (report_parts d B x) ∙ e)
 
-  pub report_good : (x : ℕ) → report_check d B x ≡ Clear → good d.capacity B ≡ true
+  pub report_good : (x : ℕ) → report_check d B x ≡ Ok tt → good d.capacity B ≡ true
   unfolding report_check Passed
   report_good x e = not-false (good d.capacity B) (passed report_may (asked_name d B x) e).1.1.1.0
 
-  pub report_held : (x : ℕ) → report_check d B x ≡ Clear → weight d.capacity B x ≡ 0 → ⊥
+  pub report_held : (x : ℕ) → report_check d B x ≡ Ok tt → weight d.capacity B x ≡ 0 → ⊥
   unfolding report_check Passed
   report_held x e = eqb-false (weight d.capacity B x) 0 (passed report_may (asked_name d B x) e).1.1.1.1.1.0

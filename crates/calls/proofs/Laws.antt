@@ -22,22 +22,17 @@ use Rattle.pieces.proofs.Laws.{placed_length, placed_good, placed_weight, remove
 use Rattle.calls.specs.declared.Drive.{Drive}
 use Rattle.calls.specs.declared.Refusal.{Refusal}
 use Rattle.calls.specs.declared.Refusal.TheVariants.{Room}
-use Rattle.calls.specs.declared.Check.{Check}
-use Rattle.calls.specs.declared.Check.TheVariants.{Clear, Refused}
-use Rattle.calls.specs.declared.Checked.{Checked}
-use Rattle.calls.specs.declared.Change.TheVariants as change
-use Rattle.calls.specs.declared.Changed.{Changed}
-use Rattle.calls.specs.declared.Served.{Served}
-use Rattle.calls.specs.declared.Reported.{Reported}
+use Rattle.calls.specs.Types.{Check, Checked, Changed, Served, Reported}
+use Rattle.std.specs.Prelude.{Ok, Err}
+use Rattle.calls.specs.declared.Unchanged.TheVariants as unchanged
 use Rattle.calls.specs.Records.{drive_at}
 use Rattle.calls.specs.Refusals.{Asked, number_of, applies, first_of, zero_or, numbers, among, open_may, add_may, remove_may, slot_may, round_may, report_may, change_may, asked_open, asked_add, asked_name, asked, asked_output, open_check, add_check, remove_check, slot_check, change_check, round_check, report_check, good_check, new_check}
 use Rattle.calls.specs.Answers.{Answer, beside, check_answer, change_answer, serving_answer, report_answer}
 use Rattle.calls.specs.Results.{if_clear, change_by, admitted_by, opened_answer, added_idle, added_answer, added_board, removed_idle, removed_answer, removed_board, refreshed_answer, refreshed_board, served_answer, slot_names, round_names, rounded_answer, reported_spacing, reported_answer}
-use Rattle.calls.proofs.Checking.{change_parts, change_slot, change_start, add_change, add_clear, add_weight, remove_change, remove_clear, remove_held}
+use Rattle.calls.proofs.Checking.{change_parts, change_slot, change_start, add_change, add_clear, add_weight, remove_change, remove_clear, remove_held, admit_parts}
 use Rattle.calls.proofs.Calling.{Refuses, refuses, refusal, may, first_within, first_among, never_within}
 use Rattle.calls.specs.Spacing.{rounded_up}
 use Rattle.calls.proofs.Spaced as spaced
-use Rattle.calls.proofs.Checking.{admit_parts}
 use Rattle.calls.specs.Promises.{Opens, Adds, Removes, Refreshes, Serves, Rounds, Reports}
 -- ---- what is known once the checks of a call are clear
 
@@ -82,7 +77,7 @@ above n m (r ∷ rs) a h e =
     let l = ltb-true m (number_of r) f.0 in
     ((λ t. omega arith), above n (number_of r) rs a (omega arith) f.1)
 
-pub first_lowest : (n : ℕ) (rs : List Refusal) (a : Asked) (r : Refusal) → ascending n rs ≡ true → first_of rs a ≡ Refused r
+pub first_lowest : (n : ℕ) (rs : List Refusal) (a : Asked) (r : Refusal) → ascending n rs ≡ true → first_of rs a ≡ Err r
     → (applies r a ≡ true) × Lowest (number_of r) rs a
 unfolding Lowest ascending first_of
 first_lowest n [] a r o e = let z : ◌≡◌ {A = ℕ} 0 1 = cc in absurd (omega arith)
@@ -99,15 +94,15 @@ first_lowest n (s ∷ rs) a r o e =
 
 -- ---- ROOM is told with the idle leaves
 
-admitted_tells : (k : Check) (left idle : ℕ) → admitted_by k left idle ≡ change.Refused Room → ⊥
-admitted_tells Clear left idle e = let z : ◌≡◌ {A = ℕ} 0 1 = cc in omega arith
-admitted_tells (Refused r) left idle e = by_bool (eqb (number_of r) 10)
+admitted_tells : (k : Check) (left idle : ℕ) → admitted_by k left idle ≡ Err (unchanged.Refused Room) → ⊥
+admitted_tells (Ok tt) left idle e = let z : ◌≡◌ {A = ℕ} 0 1 = cc in omega arith
+admitted_tells (Err r) left idle e = by_bool (eqb (number_of r) 10)
     (λ t. let f = rw t at e in let z : ◌≡◌ {A = ℕ} 0 1 = cc in omega arith)
     (λ t. let f = rw t at e in let g : r ≡ Room = cc in let h = rw g at t in let z : ◌≡◌ {A = ℕ} 0 1 = cc in omega arith)
 
-changed_tells : (k : Check) (idle : ℕ) → (k ≡ Refused Room → ⊥) → change_by k idle ≡ change.Refused Room → ⊥
-changed_tells Clear idle n e = let z : ◌≡◌ {A = ℕ} 0 1 = cc in omega arith
-changed_tells (Refused r) idle n e = let g : r ≡ Room = cc in n (rw g refl)
+changed_tells : (k : Check) (idle : ℕ) → (k ≡ Err Room → ⊥) → change_by k idle ≡ Err (unchanged.Refused Room) → ⊥
+changed_tells (Ok tt) idle n e = let z : ◌≡◌ {A = ℕ} 0 1 = cc in omega arith
+changed_tells (Err r) idle n e = let g : r ≡ Room = cc in n (rw g refl)
 
 -- ---- open
 
@@ -142,7 +137,7 @@ module _ (d : Drive) (B : List ℕ) (x w : ℕ) where
       )
 
   -- ROOM is never told without them
-  pub add_tells : {r : Changed} {E : List ℕ} → Adds d B x w r E → r.answer ≡ change.Refused Room → ⊥
+  pub add_tells : {r : Changed} {E : List ℕ} → Adds d B x w r E → r.answer ≡ Err (unchanged.Refused Room) → ⊥
   add_tells p e = admitted_tells (add_check d B x w) (added_idle d B x w) (weight d.capacity B 0) (ap (λ (r : Changed). r.answer) (sym p.0) ∙ e)
 
   pub add_answers : among (added_answer d B x w).number add_may ≡ true
@@ -162,7 +157,7 @@ module _ (d : Drive) (B : List ℕ) (x : ℕ) where
       → (r.drive ≡ d) × ((change_answer r.answer).values ≡ 0 ∷ []) × (E ≡ B)
   remove_refused p h = rw (p.0, p.2, (refusal (remove_check d B x) (refuses p.1 h)).1) (refl, refl, refl)
 
-  pub remove_tells : {r : Changed} {E : List ℕ} → Removes d B x r E → r.answer ≡ change.Refused Room → ⊥
+  pub remove_tells : {r : Changed} {E : List ℕ} → Removes d B x r E → r.answer ≡ Err (unchanged.Refused Room) → ⊥
   unfolding remove_check zero_or
   remove_tells p e = changed_tells (remove_check d B x) (removed_idle d B x)
       (never_within (numbers remove_may) (remove_check d B x) Room (first_within remove_may (asked_name d B x)) refl)
@@ -243,7 +238,7 @@ module _ (d : Drive) (B : List ℕ) (x : ℕ) where
 
 module _ (d : Drive) (B : List ℕ) where
   -- they find nothing on another board of that length that is good
-  good_again : (D : List ℕ) → length D ≡ length B → good d.capacity D ≡ true → change_check d B ≡ Clear → change_check d D ≡ Clear
+  good_again : (D : List ℕ) → length D ≡ length B → good d.capacity D ≡ true → change_check d B ≡ Ok tt → change_check d D ≡ Ok tt
   unfolding slot_check good_check
   good_again D long fine e = change_parts d D ∙ rw (long, change_slot d B e, change_start d B e, fine) refl
 
@@ -251,8 +246,8 @@ module _ (d : Drive) (B : List ℕ) where
   add_keeps x w = go (add_check d B x w) refl
     where
       go : (k : Check) → add_check d B x w ≡ k → change_check d (if_clear k (placed d.capacity B x w) B) ≡ change_check d B
-      go (Refused r) e = refl
-      go Clear e =
+      go (Err r) e = refl
+      go (Ok tt) e =
           let may = add_clear d B x w e in
           let clear = add_change d B x w e in
           good_again (placed d.capacity B x w) (placed_length d.capacity B x w may) (placed_good d.capacity B x w may) clear ∙ sym clear
@@ -261,14 +256,14 @@ module _ (d : Drive) (B : List ℕ) where
   remove_keeps x = go (remove_check d B x) refl
     where
       go : (k : Check) → remove_check d B x ≡ k → change_check d (if_clear k (tidying.removed d.capacity B x) B) ≡ change_check d B
-      go (Refused r) e = refl
-      go Clear e =
+      go (Err r) e = refl
+      go (Ok tt) e =
           let may = remove_clear d B x e in
           let clear = remove_change d B x e in
           good_again (tidying.removed d.capacity B x) (removed_length d.capacity B x may) (removed_good d.capacity B x may) clear ∙ sym clear
 
   -- an add that can be placed passes its checks where these pass
-  pub add_passes : (x w : ℕ) → change_check d B ≡ Clear → Placeable d.capacity B x w → 0 < w → add_check d B x w ≡ Clear
+  pub add_passes : (x w : ℕ) → change_check d B ≡ Ok tt → Placeable d.capacity B x w → 0 < w → add_check d B x w ≡ Ok tt
   unfolding new_check
   add_passes x w e may some = add_parts d B x w
       ∙ rw (
@@ -284,8 +279,8 @@ module _ (d : Drive) (B : List ℕ) where
   fresh_keeps = go (change_check d B) refl
     where
       go : (k : Check) → change_check d B ≡ k → change_check d (if_clear k (fresh d.capacity B) B) ≡ change_check d B
-      go (Refused r) e = refl
-      go Clear e =
+      go (Err r) e = refl
+      go (Ok tt) e =
           let s = slot_sized d B (change_slot d B e) in
           good_again (fresh d.capacity B) (fresh_length d.capacity B s.few s.long) (fresh_good d.capacity B s.few s.long) e ∙ sym e
 
@@ -340,14 +335,14 @@ unfolding weight
 weight_same zero B D x same = refl
 weight_same (suc n) B D x same = rw (weight_same n B D x (λ i h. same i (omega arith)), same n (omega arith))
 
-pub add_shows : (d : Drive) (B : List ℕ) (x w : ℕ) → add_check d B x w ≡ Clear → round_names d.capacity (added_board d B x w) ≡ round_names d.capacity B → ⊥
+pub add_shows : (d : Drive) (B : List ℕ) (x w : ℕ) → add_check d B x w ≡ Ok tt → round_names d.capacity (added_board d B x w) ≡ round_names d.capacity B → ⊥
 add_shows d B x w e r =
     let p = add_clear d B x w e in
     let f = rw e at r in
     let s = weight_same d.capacity (placed d.capacity B x w) B x (round_tells d.capacity _ _ (omega (arith, p.small)) f) in
     omega (arith, placed_weight d.capacity B x w p, p.absent, add_weight d B x w e)
 
-pub remove_shows : (d : Drive) (B : List ℕ) (x : ℕ) → remove_check d B x ≡ Clear → round_names d.capacity (removed_board d B x) ≡ round_names d.capacity B → ⊥
+pub remove_shows : (d : Drive) (B : List ℕ) (x : ℕ) → remove_check d B x ≡ Ok tt → round_names d.capacity (removed_board d B x) ≡ round_names d.capacity B → ⊥
 remove_shows d B x e r =
     let p = remove_clear d B x e in
     let f = rw e at r in
@@ -363,21 +358,21 @@ module _ (d : Drive) (B : List ℕ) where
   fresh_held x = go (change_check d B) refl
     where
       go : (k : Check) → change_check d B ≡ k → weight d.capacity (if_clear k (fresh d.capacity B) B) x ≡ weight d.capacity B x
-      go (Refused r) e = refl
-      go Clear e = let s = slot_sized d B (change_slot d B e) in fresh_weights d.capacity B s.few s.long x
+      go (Err r) e = refl
+      go (Ok tt) e = let s = slot_sized d B (change_slot d B e) in fresh_weights d.capacity B s.few s.long x
 
   -- Doing it again changes nothing.
   pub fresh_twice : refreshed_board d (refreshed_board d B) ≡ refreshed_board d B
   fresh_twice = go (change_check d B) refl
     where
       go : (k : Check) → change_check d B ≡ k → refreshed_board d (refreshed_board d B) ≡ refreshed_board d B
-      go (Refused r) e = rw (e, e) refl
-      go Clear e =
+      go (Err r) e = rw (e, e) refl
+      go (Ok tt) e =
           let s = slot_sized d B (change_slot d B e) in
           rw (fresh_keeps d B, e) (fresh_again d.capacity B s.few s.long)
 
 -- Equal streams and weights give equal leaves, and so equal rounds, whatever boards they stood on.
-module _ (d d' : Drive) (B B'' : List ℕ) (size : d.capacity ≡ d'.capacity) (clear : change_check d B ≡ Clear) (clear' : change_check d' B'' ≡ Clear)
+module _ (d d' : Drive) (B B'' : List ℕ) (size : d.capacity ≡ d'.capacity) (clear : change_check d B ≡ Ok tt) (clear' : change_check d' B'' ≡ Ok tt)
     (same : (x : ℕ) → (x ≡ 0 → ⊥) → weight d.capacity B x ≡ weight d.capacity B'' x) where
   pub fresh_equal : (i : ℕ) → i < d.capacity → get_or (refreshed_board d B) i 0 ≡ get_or (refreshed_board d' B'') i 0
   fresh_equal =
@@ -392,7 +387,7 @@ module _ (d d' : Drive) (B B'' : List ℕ) (size : d.capacity ≡ d'.capacity) (
 
 -- ---- the spacing that is reported
 
-module _ (d : Drive) (B : List ℕ) (x : ℕ) (clear : report_check d B x ≡ Clear) where
+module _ (d : Drive) (B : List ℕ) (x : ℕ) (clear : report_check d B x ≡ Ok tt) where
   sized : Sized d.capacity B
   sized = slot_sized d B (report_slot d B x clear)
 

@@ -10,8 +10,8 @@ use Rattle.pieces.specs.Board.{weight, sound, single, pieces, whole, uniform, nt
 use Rattle.pieces.specs.Placing.{place, put, fill, spot, fit, first}
 use Rattle.pieces.specs.Tidying.{clear, tidy, step, pair, join, twin, move, copy}
 use Rattle.calls.specs.declared.Drive.{Drive}
-use Rattle.calls.specs.declared.Serving.{Serving}
-use Rattle.calls.specs.declared.Serving.TheVariants.{Slot, Refused}
+use Rattle.calls.specs.Types.{Serving}
+use Rattle.std.specs.Prelude.{Ok, Err}
 use Rattle.calls.specs.Records.{drive_at}
 use Rattle.calls.specs.Refusals.{number_of, open_check, add_check, remove_check, slot_check, change_check, round_check, report_check}
 use Rattle.calls.specs.Answers.{Answer, check_answer, change_answer, report_answer}
@@ -35,8 +35,8 @@ data WorkedCall : Type 0 where
   looks : WorkedCall
 
 leaf_of : Serving → ℕ
-leaf_of (Slot name leaf passed round) = leaf
-leaf_of (Refused r) = number_of r
+leaf_of (Ok s) = s.leaf
+leaf_of (Err r) = number_of r
 
 -- n slots in a row: the record after them, and the leaves
 slots : ℕ → Drive → List ℕ → Drive × List ℕ

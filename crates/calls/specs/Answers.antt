@@ -1,18 +1,12 @@
 -- Document 01's number and values for every case of every answer: 0 and the values of a call that is done, the number and zeros of a refused one, but for
 -- ROOM the idle leaves (document 02, No. 5).
 -- Assumes nothing.
-use Rattle.std.specs.Prelude.{cond, List, [], ◌∷◌, map, ℕ, eqb}
+use Rattle.std.specs.Prelude.{cond, List, [], ◌∷◌, map, ℕ, eqb, Ok, Err}
 use Rattle.calls.specs.Refusals.{number_of}
 use Rattle.calls.specs.declared.Refusal.{Refusal}
 use Rattle.calls.specs.declared.Refusal.TheVariants.{Room}
-use Rattle.calls.specs.declared.Check.{Check}
-use Rattle.calls.specs.declared.Check.TheVariants.{Clear, Refused}
-use Rattle.calls.specs.declared.Change.{Change}
-use Rattle.calls.specs.declared.Change.TheVariants as change
-use Rattle.calls.specs.declared.Serving.{Serving}
-use Rattle.calls.specs.declared.Serving.TheVariants as serving
-use Rattle.calls.specs.declared.Report.{Report}
-use Rattle.calls.specs.declared.Report.TheVariants as report
+use Rattle.calls.specs.Types.{Check, Change, Serving, Report}
+use Rattle.calls.specs.declared.Unchanged.TheVariants as unchanged
 
 -- A number, and the values beside it.
 pub record Answer : Type 0 where
@@ -21,13 +15,13 @@ pub record Answer : Type 0 where
 
 -- The number, by what the checks find: 0 where that is nothing.
 abbrev pub number_by : Check → ℕ
-number_by Clear = 0
-number_by (Refused r) = number_of r
+number_by (Ok tt) = 0
+number_by (Err r) = number_of r
 
 -- The values, by what the checks find: those of a call that is done, or those that stand beside a refusal's number.
 abbrev pub values_by : Check → List ℕ → (Refusal → List ℕ) → List ℕ
-values_by Clear vs beside = vs
-values_by (Refused r) vs beside = beside r
+values_by (Ok tt) vs beside = vs
+values_by (Err r) vs beside = beside r
 
 abbrev pub answered_with : Check → List ℕ → (Refusal → List ℕ) → Answer
 answered_with k vs beside = record { number = number_by k; values = values_by k vs beside }
@@ -46,16 +40,16 @@ check_answer k = answered k []
 
 -- Add and remove: the idle leaves left; ROOM, the idle leaves there are.
 abbrev pub change_answer : Change → Answer
-change_answer (change.Done idle) = record { number = 0; values = idle ∷ [] }
-change_answer (change.Room idle) = record { number = number_of Room; values = beside (number_of Room) idle ∷ [] }
-change_answer (change.Refused r) = record { number = number_of r; values = 0 ∷ [] }
+change_answer (Ok idle) = record { number = 0; values = idle ∷ [] }
+change_answer (Err (unchanged.Room idle)) = record { number = number_of Room; values = beside (number_of Room) idle ∷ [] }
+change_answer (Err (unchanged.Refused r)) = record { number = number_of r; values = 0 ∷ [] }
 
 -- Slot: the name, the leaf, the terms passed over, the number of its round.
 abbrev pub serving_answer : Serving → Answer
-serving_answer (serving.Slot name leaf passed round) = record { number = 0; values = name ∷ leaf ∷ passed ∷ round ∷ [] }
-serving_answer (serving.Refused r) = record { number = number_of r; values = 0 ∷ 0 ∷ 0 ∷ 0 ∷ [] }
+serving_answer (Ok s) = record { number = 0; values = s.name ∷ s.leaf ∷ s.passed ∷ s.round ∷ [] }
+serving_answer (Err r) = record { number = number_of r; values = 0 ∷ 0 ∷ 0 ∷ 0 ∷ [] }
 
 -- Report: weight, number of pieces, spacing.
 abbrev pub report_answer : Report → Answer
-report_answer (report.Stream weight pieces spacing) = record { number = 0; values = weight ∷ pieces ∷ spacing ∷ [] }
-report_answer (report.Refused r) = record { number = number_of r; values = 0 ∷ 0 ∷ 0 ∷ [] }
+report_answer (Ok s) = record { number = 0; values = s.weight ∷ s.pieces ∷ s.spacing ∷ [] }
+report_answer (Err r) = record { number = number_of r; values = 0 ∷ 0 ∷ 0 ∷ [] }

@@ -1,4 +1,5 @@
 pub mod Records
+pub mod Types
 pub mod Refusals
 pub mod Answers
 pub mod Spacing

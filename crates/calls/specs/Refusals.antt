@@ -1,13 +1,12 @@
 -- Document 01, "Calls and refusal numbers": the table, the refusals that each call may answer, and the first of them that applies.
 -- Assumes nothing.
-use Rattle.std.specs.Prelude.{Bool, true, false, not, ◌||◌, List, [], ◌∷◌, map, ℕ, ◌-◌, ◌^◌, eqb, ltb, length}
+use Rattle.std.specs.Prelude.{Bool, true, false, not, ◌||◌, List, [], ◌∷◌, map, ℕ, ◌-◌, ◌^◌, eqb, ltb, length, Ok, Err}
 use Rattle.sequences.specs.SlotOrder.{digits}
 use Rattle.pieces.specs.Board as pieces
 use Rattle.calls.specs.declared.Drive.{Drive}
 use Rattle.calls.specs.declared.Refusal.{Refusal}
 use Rattle.calls.specs.declared.Refusal.TheVariants.{Capacity, Short, Position, Midround, Damaged, Name, Weight, Taken, Absent, Room, Output, Block}
-use Rattle.calls.specs.declared.Check.{Check}
-use Rattle.calls.specs.declared.Check.TheVariants.{Clear, Refused}
+use Rattle.calls.specs.Types.{Check}
 use Rattle.calls.specs.Records.{drive_at}
 
 -- The numbers of the table.
@@ -54,24 +53,24 @@ applies Block a = a.broken
 
 -- A refusal where its test holds, and else what the others find.
 abbrev pub refuse_if : Bool → Refusal → Check → Check
-refuse_if true r others = Refused r
+refuse_if true r others = Err r
 refuse_if false r others = others
 
 -- The first of a list of refusals that applies.
 unfoldable pub first_of : List Refusal → Asked → Check
 unfolding applies
-first_of [] a = Clear
+first_of [] a = Ok tt
 first_of (r ∷ rs) a = let others = first_of rs a in refuse_if (applies r a) r others
 
 -- What one part of the checks finds, and where that is nothing what the next part finds.
 abbrev pub and_then : Check → Check → Check
-and_then Clear later = later
-and_then (Refused r) later = Refused r
+and_then (Ok tt) later = later
+and_then (Err r) later = Err r
 
 -- Checks that find nothing.
 abbrev pub is_clear : Check → Bool
-is_clear Clear = true
-is_clear (Refused r) = false
+is_clear (Ok tt) = true
+is_clear (Err r) = false
 
 -- n is 0, or a number of the list.
 unfoldable pub zero_or : ℕ → List ℕ → Bool

@@ -1,7 +1,7 @@
 -- What each call returns and what it leaves in each slice that it was lent, for every input: document 01, "Calls and refusal numbers".
 -- A refused call gives back the record that it was given (open, one of zeros) and leaves every slice as it was.
 -- Assumes nothing.
-use Rattle.std.specs.Prelude.{cond, List, [], ◌∷◌, ◌++◌, map, ℕ, eqb, length, get_or, drop, replicate}
+use Rattle.std.specs.Prelude.{cond, List, [], ◌∷◌, ◌++◌, map, ℕ, eqb, length, get_or, drop, replicate, Ok, Err}
 use Rattle.sequences.specs.SlotOrder.{leaf_at, passed_from, served_from, next_from}
 use Rattle.sequences.specs.Serving.{leaves_from}
 use Rattle.pieces.specs.Board.{weight, piece_count}
@@ -14,23 +14,13 @@ use Rattle.calls.specs.Spacing.{spacing_in}
 use Rattle.calls.specs.Refusals.{number_of, open_check, add_check, remove_check, slot_check, round_check, report_check, change_check}
 use Rattle.calls.specs.declared.Drive.{Drive}
 use Rattle.calls.specs.declared.Refusal.{Refusal}
-use Rattle.calls.specs.declared.Check.{Check}
-use Rattle.calls.specs.declared.Check.TheVariants.{Clear, Refused}
-use Rattle.calls.specs.declared.Checked.{Checked}
-use Rattle.calls.specs.declared.Changed.{Changed}
-use Rattle.calls.specs.declared.Change.{Change}
-use Rattle.calls.specs.declared.Change.TheVariants as change
-use Rattle.calls.specs.declared.Served.{Served}
-use Rattle.calls.specs.declared.Serving.{Serving}
-use Rattle.calls.specs.declared.Serving.TheVariants as serving
-use Rattle.calls.specs.declared.Reported.{Reported}
-use Rattle.calls.specs.declared.Report.{Report}
-use Rattle.calls.specs.declared.Report.TheVariants as report
+use Rattle.calls.specs.Types.{Check, Checked, Changed, Change, Served, Serving, Reported, Report}
+use Rattle.calls.specs.declared.Unchanged.TheVariants as unchanged
 
 -- What a call that passes its checks gives, or what stands where it is refused.
 abbrev pub if_clear {ℓ} : {A : Type ℓ} → Check → A → A → A
-if_clear Clear done was = done
-if_clear (Refused r) done was = was
+if_clear (Ok tt) done was = done
+if_clear (Err r) done was = was
 
 -- What open and read give back, by what their checks find: the record that they set, with C and p; refused, one with both zero.
 abbrev pub set_by : Check → ℕ → ℕ → Checked
@@ -38,24 +28,24 @@ set_by k C p = record { drive = if_clear k (drive_at C p) (drive_at 0 0); answer
 
 -- The answers that have values, by what the checks find.
 abbrev pub change_by : Check → ℕ → Change
-change_by Clear idle = change.Done idle
-change_by (Refused r) idle = change.Refused r
+change_by (Ok tt) idle = Ok idle
+change_by (Err r) idle = Err (unchanged.Refused r)
 
 -- Add's answer: the idle leaves left; ROOM, and no other refusal, has a case of its own, which says the idle leaves there are.
 abbrev pub refused_for : Refusal → ℕ → Change
-refused_for r idle = cond (eqb (number_of r) 10) (change.Room idle) (change.Refused r)
+refused_for r idle = cond (eqb (number_of r) 10) (Err (unchanged.Room idle)) (Err (unchanged.Refused r))
 
 abbrev pub admitted_by : Check → ℕ → ℕ → Change
-admitted_by Clear left idle = change.Done left
-admitted_by (Refused r) left idle = refused_for r idle
+admitted_by (Ok tt) left idle = Ok left
+admitted_by (Err r) left idle = refused_for r idle
 
 abbrev pub serving_by : Check → ℕ → ℕ → ℕ → ℕ → Serving
-serving_by Clear name leaf passed round = serving.Slot name leaf passed round
-serving_by (Refused r) name leaf passed round = serving.Refused r
+serving_by (Ok tt) name leaf passed round = Ok (record { name = name; leaf = leaf; passed = passed; round = round })
+serving_by (Err r) name leaf passed round = Err r
 
 abbrev pub report_by : Check → ℕ → ℕ → ℕ → Report
-report_by Clear weight pieces spacing = report.Stream weight pieces spacing
-report_by (Refused r) weight pieces spacing = report.Refused r
+report_by (Ok tt) weight pieces spacing = Ok (record { weight = weight; pieces = pieces; spacing = spacing })
+report_by (Err r) weight pieces spacing = Err r
 
 -- open: C leaves become idle, p = 1, and the round number is 0.
 abbrev pub opened : ℕ → List ℕ → Checked
@@ -70,10 +60,6 @@ idle_board C B = replicate C 0 ++ drop C B
 
 abbrev pub opened_board : ℕ → List ℕ → List ℕ
 opened_board C B = let done = idle_board C B in if_clear (open_check C B) done B
-
--- A change that is done, on the board that it leaves: the idle leaves left.
-abbrev pub changed_to : Drive → List ℕ → Changed
-changed_to d B = record { drive = d; answer = change.Done (weight d.capacity B 0) }
 
 -- add: the weight is placed; the idle leaves left. Refused for ROOM, it returns the idle leaves there are.
 abbrev pub added_board : Drive → List ℕ → ℕ → ℕ → List ℕ

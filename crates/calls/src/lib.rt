@@ -1,14 +1,13 @@
 // The calls on one drive's slot board: open, add, remove, slot, round, report, the fresh layout, and the refusals of document 01.
 #![tactic(auto)]
 
-ghost use Rattle.std.specs.Prelude.{◌≡◌, ◌≤◌, length};
-ghost use Rattle.calls.specs.Records.{drive_at, round_after, moved_to};
+ghost use Rattle.std.specs.Prelude.{◌≡◌, length};
+ghost use Rattle.calls.specs.declared.Unchanged.TheVariants.{Refused};
+ghost use Rattle.calls.specs.Records.{drive_at, moved_to};
 ghost use Rattle.calls.specs.Refusals as refusals;
 ghost use Rattle.calls.specs.Refusals.{number_of};
 ghost use Rattle.calls.specs.Results as results;
 ghost use Rattle.calls.specs.Promises as promises;
-
-use pieces::Admission;
 
 pub mod checks;
 pub mod rounds;
@@ -16,7 +15,7 @@ pub mod spacing;
 
 // The drive record: the capacity C, the position p, and the number of the round that the slot at p belongs to. Its type owns the limits and the calls.
 #[repr(C)]
-#[derive(Clone, Copy)]
+#[derive(Clone, Copy, Debug, PartialEq, Eq)]
 pub struct Drive {
     pub capacity: u16,
     pub position: u16,
@@ -24,9 +23,9 @@ pub struct Drive {
 }
 
 // The refusals, by the names of document 01's table, in the order of its numbers.
-#[derive(Clone, Copy)]
+#[derive(Clone, Copy, Debug, PartialEq, Eq)]
 pub enum Refusal {
-    Capacity,
+    Capacity = 1,
     Short,
     Position,
     Midround,
@@ -45,84 +44,60 @@ impl Refusal {
     pub fn number(self) -> u16
         ensures { result ≡ number_of self }
     {
-        match self {
-            Refusal::Capacity => 1,
-            Refusal::Short => 2,
-            Refusal::Position => 3,
-            Refusal::Midround => 4,
-            Refusal::Damaged => 5,
-            Refusal::Name => 6,
-            Refusal::Weight => 7,
-            Refusal::Taken => 8,
-            Refusal::Absent => 9,
-            Refusal::Room => 10,
-            Refusal::Output => 11,
-            Refusal::Block => 12,
-        }
+        self as u16
     }
 }
 
-// What the checks before a call find, and the answer of a call that returns no value: open, round, the fresh layout, read.
+// What a call gives back: the record, and what it answers.
 #[derive(Clone, Copy)]
-pub enum Check {
-    Clear,
-    Refused(Refusal),
-}
-
-#[derive(Clone, Copy)]
-pub struct Checked {
+pub struct Returned<A> {
     pub drive: Drive,
-    pub answer: Check,
+    pub answer: A,
 }
 
-// The answer of add and of remove: the idle leaves left. ROOM has its own case, which says the idle leaves there are, and is never Refused(Room).
-#[derive(Clone, Copy)]
-pub enum Change {
-    Done(u16),
+// What open, round, the fresh layout and read give back.
+pub type Checked = Returned<Result<(), Refusal>>;
+
+// Why a change was not made: ROOM, with the idle leaves there are, or another refusal, which is never ROOM.
+#[derive(Clone, Copy, Debug, PartialEq, Eq)]
+pub enum Unchanged {
     Room(u16),
     Refused(Refusal),
 }
 
-#[derive(Clone, Copy)]
-pub struct Changed {
-    pub drive: Drive,
-    pub answer: Change,
+impl From<Refusal> for Unchanged {
+    ghost from_gives = { λ r u. u ≡ Refused r };
+
+    fn from(r: Refusal) -> Unchanged {
+        Unchanged::Refused(r)
+    }
 }
 
-// The answer of slot.
-#[derive(Clone, Copy)]
-pub enum Serving {
-    Slot {
-        name: u16,
-        leaf: u16,
-        passed: u16,
-        round: u64,
-    },
-    Refused(Refusal),
+// What add and remove give back: the idle leaves left.
+pub type Changed = Returned<Result<u16, Unchanged>>;
+
+// A slot served.
+#[derive(Clone, Copy, Debug, PartialEq, Eq)]
+pub struct Slot {
+    pub name: u16,
+    pub leaf: u16,
+    pub passed: u16,
+    pub round: u64,
 }
 
-#[derive(Clone, Copy)]
-pub struct Served {
-    pub drive: Drive,
-    pub answer: Serving,
+// What slot gives back.
+pub type Served = Returned<Result<Slot, Refusal>>;
+
+// A stream reported on.
+#[derive(Clone, Copy, Debug, PartialEq, Eq)]
+pub struct Stream {
+    pub weight: u16,
+    pub pieces: u16,
+    pub spacing: u16,
 }
 
-// The answer of report.
-#[derive(Clone, Copy)]
-pub enum Report {
-    Stream {
-        weight: u16,
-        pieces: u16,
-        spacing: u16,
-    },
-    Refused(Refusal),
-}
-
-#[derive(Clone, Copy)]
-pub struct Reported {
-    pub drive: Drive,
-    pub answer: Report,
-}
+// What report gives back.
+pub type Reported = Returned<Result<Stream, Refusal>>;
 
 impl Drive {
     // The largest capacity.
@@ -145,44 +120,32 @@ impl Drive {
         }
     }
 
-    // The one place that moves a record: a round more where the position returns to 1.
+    // The one place that moves a record: a round more where the position returns to 1, and 0 after the largest.
     fn moved(mut self, position: u16) -> Drive
         ensures { result ≡ moved_to self position }
     {
         if position == 1 {
-            self.round = next_round(self.round);
+            self.round = self.round.wrapping_add(1);
         }
         self.position = position;
         self
     }
 
-    // A remove that is done: the idle leaves left are counted.
-    fn counted(self, board: &[u16]) -> Changed
-        requires { (self.capacity ≤ length board.now) × (self.capacity ≤ 4095) }
-        ensures { result ≡ results.changed_to self board.now }
-    {
-        let idle = pieces::weigh(board, self.capacity as usize, 0);
-        Changed {
-            drive: self,
-            answer: Change::Done(idle as u16),
-        }
-    }
-
-    // Opens a board: its leaves become idle, and the record stands at the start of a round.
+    // Opens a board: its leaves become idle, and the record stands at the start of a round. A refusal gives a record too, so a `?` does not serve.
     pub fn open(capacity: u16, board: &mut [u16]) -> Checked
         ensures { promises.Opens capacity board.old result board.new }
     {
         let c = capacity as usize;
         match checks::check_open(c, board) {
-            Check::Refused(r) => Checked {
+            Err(r) => Returned {
                 drive: Drive::new(0, 0),
-                answer: Check::Refused(r),
+                answer: Err(r),
             },
-            Check::Clear => {
+            Ok(()) => {
                 pieces::fill(board, 0, c, 0);
-                Checked {
+                Returned {
                     drive: Drive::new(capacity, 1),
-                    answer: Check::Clear,
+                    answer: Ok(()),
                 }
             }
         }
@@ -197,28 +160,37 @@ impl Drive {
     }
 
     // Admits a stream, by what the checks 1 to 5 found.
-    pub fn add_by(self, found: Check, board: &mut [u16], name: u16, weight: u16) -> Changed
+    pub fn add_by(
+        self,
+        found: Result<(), Refusal>,
+        board: &mut [u16],
+        name: u16,
+        weight: u16,
+    ) -> Changed
         requires { found ≡ refusals.change_check self board.old }
         ensures { promises.Adds self board.old name weight result board.new }
     {
-        match self.check_admit(found, board, name, weight) {
-            Check::Refused(r) => Changed {
-                drive: self,
-                answer: Change::Refused(r),
-            },
-            Check::Clear => {
-                let c = self.capacity as usize;
-                match pieces::admit(board, c, name, weight as usize) {
-                    Admission::Placed(left) => Changed {
-                        drive: self,
-                        answer: Change::Done(left as u16),
-                    },
-                    Admission::Room(idle) => Changed {
-                        drive: self,
-                        answer: Change::Room(idle as u16),
-                    },
-                }
-            }
+        Returned {
+            drive: self,
+            answer: self.place(found, board, name, weight),
+        }
+    }
+
+    // Places a stream, and says how many leaves are left idle.
+    fn place(
+        self,
+        found: Result<(), Refusal>,
+        board: &mut [u16],
+        name: u16,
+        weight: u16,
+    ) -> Result<u16, Unchanged>
+        requires { found ≡ refusals.change_check self board.old }
+        ensures { promises.Places self board.old name weight result board.new }
+    {
+        self.check_admit(found, board, name, weight)?;
+        match pieces::admit(board, self.capacity as usize, name, weight as usize) {
+            Ok(left) => Ok(left as u16),
+            Err(full) => Err(Unchanged::Room(full.idle as u16)),
         }
     }
 
@@ -231,62 +203,67 @@ impl Drive {
     }
 
     // Removes a stream, by what the checks 1 to 5 found.
-    pub fn remove_by(self, found: Check, board: &mut [u16], name: u16) -> Changed
+    pub fn remove_by(self, found: Result<(), Refusal>, board: &mut [u16], name: u16) -> Changed
         requires { found ≡ refusals.change_check self board.old }
         ensures { promises.Removes self board.old name result board.new }
     {
-        match self.check_remove(found, board, name) {
-            Check::Refused(r) => Changed {
-                drive: self,
-                answer: Change::Refused(r),
-            },
-            Check::Clear => {
-                pieces::remove(board, self.capacity as usize, name);
-                self.counted(board)
-            }
+        Returned {
+            drive: self,
+            answer: self.clear(found, board, name),
         }
+    }
+
+    // Clears a stream's leaves, and says how many leaves are left idle.
+    fn clear(
+        self,
+        found: Result<(), Refusal>,
+        board: &mut [u16],
+        name: u16,
+    ) -> Result<u16, Unchanged>
+        requires { found ≡ refusals.change_check self board.old }
+        ensures { promises.Clears self board.old name result board.new }
+    {
+        self.check_remove(found, board, name)?;
+        let c = self.capacity as usize;
+        pieces::remove(board, c, name);
+        Ok(pieces::weigh(board, c, 0) as u16)
     }
 
     // Lays the board out afresh: as if every stream had been added to an opened board by falling weight, then rising name.
     pub fn fresh(self, board: &mut [u16]) -> Checked
         ensures { promises.Refreshes self board.old result board.new }
     {
-        match self.check_change(board) {
-            Check::Refused(r) => Checked {
-                drive: self,
-                answer: Check::Refused(r),
-            },
-            Check::Clear => {
-                pieces::lay_out(board, self.capacity as usize);
-                Checked {
-                    drive: self,
-                    answer: Check::Clear,
-                }
-            }
+        let answer = self.check_change(board);
+        if answer.is_ok() {
+            pieces::lay_out(board, self.capacity as usize);
+        }
+        Returned {
+            drive: self,
+            answer,
         }
     }
 
-    // Serves the slot at the record's position, and moves the record on.
+    // Serves the slot at the record's position, and moves the record on. A refusal gives the record back, so a `?` does not serve.
     pub fn slot(self, board: &[u16]) -> Served
         ensures { promises.Serves self board.now result }
     {
         match self.check_slot(board) {
-            Check::Refused(r) => Served {
+            Err(r) => Returned {
                 drive: self,
-                answer: Serving::Refused(r),
+                answer: Err(r),
             },
-            Check::Clear => {
+            Ok(()) => {
                 let s = sequences::pick(self.capacity as usize, self.position as usize);
                 let leaf = s.leaf;
                 let next = self.moved(s.next as u16);
-                Served {
+                Returned {
                     drive: next,
-                    answer: Serving::Slot {
+                    answer: Ok(Slot {
                         name: board[leaf],
                         leaf: leaf as u16,
                         passed: s.passed as u16,
                         round: self.round,
-                    },
+                    }),
                 }
             }
         }
@@ -296,53 +273,44 @@ impl Drive {
     pub fn round(self, board: &[u16], output: &mut [u16]) -> Checked
         ensures { promises.Rounds self board.now output.old result output.new }
     {
-        match self.check_round(board, output.len()) {
-            Check::Refused(r) => Checked {
-                drive: self,
-                answer: Check::Refused(r),
-            },
-            Check::Clear => {
-                rounds::write_round(board, self.capacity as usize, output);
-                Checked {
-                    drive: self,
-                    answer: Check::Clear,
-                }
-            }
+        Returned {
+            drive: self,
+            answer: self.write_round(board, output),
         }
+    }
+
+    // Writes the names of a full round, and says whether it did.
+    fn write_round(self, board: &[u16], output: &mut [u16]) -> Result<(), Refusal>
+        ensures found { result ≡ refusals.round_check self board.now (length output.old) }
+        ensures output { output.new ≡ results.rounded_output self board.now output.old }
+    {
+        self.check_round(board, output.len())?;
+        rounds::write_round(board, self.capacity as usize, output);
+        Ok(())
     }
 
     // Reports on a stream.
     pub fn report(self, board: &[u16], name: u16) -> Reported
         ensures { promises.Reports self board.now name result }
     {
-        match self.check_report(board, name) {
-            Check::Refused(r) => Reported {
-                drive: self,
-                answer: Report::Refused(r),
-            },
-            Check::Clear => {
-                let c = self.capacity as usize;
-                let w = pieces::weigh(board, c, name);
-                let spacing = spacing::spacing(board, c, name);
-                Reported {
-                    drive: self,
-                    answer: Report::Stream {
-                        weight: w as u16,
-                        pieces: usize::count_ones(w) as u16,
-                        spacing: spacing as u16,
-                    },
-                }
-            }
+        Returned {
+            drive: self,
+            answer: self.stream(board, name),
         }
     }
-}
 
-// The number of the round after this one: 0 after the largest.
-fn next_round(number: u64) -> u64
-    ensures { result ≡ round_after number }
-{
-    if number == Drive::LAST_ROUND {
-        return 0;
+    // A stream's weight, pieces and spacing.
+    fn stream(self, board: &[u16], name: u16) -> Result<Stream, Refusal>
+        ensures { promises.Tells self board.now name result }
+    {
+        self.check_report(board, name)?;
+        let c = self.capacity as usize;
+        let w = pieces::weigh(board, c, name);
+        let spacing = spacing::spacing(board, c, name);
+        Ok(Stream {
+            weight: w as u16,
+            pieces: usize::count_ones(w) as u16,
+            spacing: spacing as u16,
+        })
     }
-    number + 1
 }

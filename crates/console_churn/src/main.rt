@@ -1,6 +1,7 @@
 // Streams come and go: boards on which a wrong choice of idle piece or of move shows.
 #![tactic(auto)]
 
+// The same three lines in every program of the console: each is a crate of its own, with its own input.
 fn main(rt: HostRuntime) {
     let mut board = [0; 4095];
     let mut list = [0u64; 259];

@@ -1,6 +1,8 @@
 // The console's loop: standard input is read in large blocks, heard, and what is said is written in large blocks, before
 // more input is waited for. What is heard and said is the promises of `lines`; no contract can say what is read or
-// written, but whatever it is, the board and the waiting list are as a session over some input leaves them.
+// written, but whatever it is, the board and the waiting list are as a session over some input leaves them. These two and
+// the bytes for replies come as three arguments all the way down: the public `serve`, and `feed` and `finish` of `lines`,
+// are lent them apart.
 #![tactic(auto)]
 
 mod system;
@@ -10,13 +12,7 @@ ghost use Rattle.console_loop.specs.Serving.{Follows, LeftBySession};
 
 use lines::Session;
 use std::io::Read;
-
-// A session, and whether there is more to hear: the input has not ended, and what was said could be written.
-#[derive(Clone, Copy)]
-struct Turn {
-    session: Session,
-    goes_on: bool,
-}
+use system::Stop;
 
 // Room for a block of input.
 fn input_room() -> [u8; 65536]
@@ -34,106 +30,81 @@ fn large_room() -> [u8; 131072]
 
 // Hears a block of input to its end, and writes what is said of it.
 fn hear_block(
-    rt: &(impl Print + Eprint),
-    session: Session,
+    rt: &impl Print,
+    session: &mut Session,
     input: &[u8],
     board: &mut [u16],
     list: &mut [u64],
     out: &mut [u8],
-) -> Turn
-    ensures { Follows session board.old list.old result.session board.new list.new }
+) -> Result<(), Stop>
+    ensures { Follows session.old board.old list.old session.new board.new list.new }
 {
-    let mut s = session;
-    let mut at: usize = 0;
-    while at < input.len() {
-        let fed = lines::feed(s, &input[at..], board, list, out);
-        s = fed.session;
-        let to = fed.to;
-        let used = fed.used;
-        if !system::say(rt, &out[..to]) {
-            return Turn {
-                session: s,
-                goes_on: false,
-            };
+    let mut rest = input;
+    // `feed` says how far it came, so no index is counted.
+    while !rest.is_empty() {
+        let fed = lines::feed(*session, rest, board, list, out);
+        *session = fed.session;
+        system::say(rt, &out[..fed.to])?;
+        if fed.used == 0 {
+            return Err(Stop::End);
         }
-        if used == 0 {
-            return Turn {
-                session: s,
-                goes_on: false,
-            };
-        }
-        at += used;
+        rest = &rest[fed.used..];
     }
-    Turn {
-        session: s,
-        goes_on: true,
-    }
+    Ok(())
 }
 
 // The end of the input: the last line, where no line feed ended it.
 fn hear_end(
-    rt: &(impl Print + Eprint),
-    session: Session,
+    rt: &impl Print,
+    session: &mut Session,
     board: &mut [u16],
     list: &mut [u64],
     out: &mut [u8],
-) -> Turn
-    ensures { Follows session board.old list.old result.session board.new list.new }
+) -> Result<(), Stop>
+    ensures { Follows session.old board.old list.old session.new board.new list.new }
 {
-    let fed = lines::finish(session, board, list, out);
-    let to = fed.to;
-    system::say(rt, &out[..to]);
-    let session = fed.session;
-    Turn {
-        session,
-        goes_on: false,
-    }
+    let fed = lines::finish(*session, board, list, out);
+    *session = fed.session;
+    system::say(rt, &out[..fed.to])?;
+    Err(Stop::End)
 }
 
 // Reads once, and answers what came. Where the read fails nothing is heard: a line that is cut there is no line.
 fn take_turn<R: Read>(
-    rt: &(impl Print + Eprint),
+    rt: &impl Print,
     from: &mut R,
-    session: Session,
+    session: &mut Session,
     input: &mut [u8],
     board: &mut [u16],
     list: &mut [u64],
     out: &mut [u8],
-) -> Turn
-    ensures { Follows session board.old list.old result.session board.new list.new }
+) -> Result<(), Stop>
+    ensures { Follows session.old board.old list.old session.new board.new list.new }
 {
     match from.read(input) {
         Ok(0) => hear_end(rt, session, board, list, out),
         Ok(n) => hear_block(rt, session, &input[..n], board, list, out),
-        Err(error) => {
-            let goes_on = system::is_read_again(rt, error);
-            Turn { session, goes_on }
-        }
+        Err(error) => system::wait(error).map_err(Stop::Input),
     }
 }
 
 // Turns until there is no more to hear. A proved loop has to end, and nothing says that the input does, so the turns
-// are counted down from a number that no run uses up.
+// are counted to a number that no run comes to.
 fn talk(
-    rt: &(impl Input + Print + Eprint),
+    rt: &(impl Input + Print),
     input: &mut [u8],
     board: &mut [u16],
     list: &mut [u64],
     out: &mut [u8],
-)
+) -> Result<(), Stop>
     ensures { LeftBySession board.old list.old board.new list.new }
 {
     let mut from = rt.reader();
     let mut session = Session::new();
-    let mut turns = u64::MAX;
-    while turns > 0 {
-        let t = take_turn(rt, &mut from, session, input, board, list, out);
-        session = t.session;
-        if !t.goes_on {
-            return;
-        }
-        turns -= 1;
+    for _ in 0..u64::MAX {
+        take_turn(rt, &mut from, &mut session, input, board, list, out)?;
     }
+    Ok(())
 }
 
 // Answers standard input to its end on standard output.
@@ -142,5 +113,7 @@ pub fn serve(rt: &(impl Input + Print + Eprint), board: &mut [u16], list: &mut [
 {
     let mut input = input_room();
     let mut out = large_room();
-    talk(rt, &mut input, board, list, &mut out);
+    if let Err(stop) = talk(rt, &mut input, board, list, &mut out) {
+        system::tell(rt, stop);
+    }
 }

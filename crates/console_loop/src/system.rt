@@ -1,10 +1,24 @@
 // Reads and writes that fail. One that a signal interrupted, or that would have blocked, is made again after others had
 // their turn to run; std has no poll. Any other failure is a line on standard error.
-ghost use Rattle.std.specs.Prelude.{◌≡◌, length};
+ghost use Rattle.std.specs.Prelude.{◌≡◌};
 ghost use Rattle.console_loop.specs.Failing.{passing_error};
 
-use std::io::{ErrorKind, Write};
-use std::{io, str, thread};
+use arrayvec::ArrayString;
+use std::fmt::Write;
+use std::io::ErrorKind;
+use std::{io, thread};
+
+// Why there is no more to hear.
+#[derive(Drop)]
+pub enum Stop {
+    // Nothing failed: the input has ended; or no reply fits what is lent for it, so that nothing is heard; or as many tries
+    // were made as a proved loop may count. It stands beside the failures since it ends the talk as they do, through `?`.
+    End,
+    // Reading standard input failed.
+    Input(io::Error),
+    // Writing to standard output failed.
+    Output(io::Error),
+}
 
 // The system's numbers of the errors that pass.
 const EINTR: i32 = 4;
@@ -18,75 +32,51 @@ fn passes(error: i32) -> bool
     error == EINTR || error == EAGAIN
 }
 
-// Where the words of an error are written before they are told.
-fn words_room() -> [u8; 256]
-    ensures { 256 ≡ length result }
-{
-    [0; 256]
-}
-
-// Tells a failure as the system does, without the number that std writes after its words: `console: standard output: No space left on device`.
-fn tell(rt: &impl Eprint, what: &str, error: io::Error) {
-    let mut room = words_room();
-    let mut rest: &mut [u8] = &mut room;
-    let written = write!(rest, "{error}");
-    let left = rest.len();
-    let text = match str::from_utf8(&room[..room.len().saturating_sub(left)]) {
-        Ok(text) => text,
-        Err(_) => "",
-    };
-    let words = match text.split_once(" (os error ") {
-        Some((words, _)) => words,
-        None => text,
-    };
-    let _ = written;
-    let _ = eprintln!(rt; "console: {what}: {words}");
-}
-
-// After a call that failed: whether to make it again. If not, the failure is told.
-fn is_made_again(rt: &impl Eprint, what: &str, error: io::Error) -> bool {
+// After a call that failed: `Ok` where it is to be made again.
+pub fn wait(error: io::Error) -> io::Result<()> {
     if let Some(code) = error.raw_os_error()
         && passes(code)
     {
         thread::yield_now();
-        return true;
+        return Ok(());
     }
-    tell(rt, what, error);
-    false
+    Err(error)
 }
 
-// After a read of standard input that failed.
-pub fn is_read_again(rt: &impl Eprint, error: io::Error) -> bool {
-    is_made_again(rt, "standard input", error)
+// Tells a failure as the system does, without the number that std writes after its words: `console: standard output: No space left on device`.
+fn tell_failure(rt: &impl Eprint, what: &str, error: io::Error) {
+    let mut room: ArrayString<256> = ArrayString::new();
+    let _ = write!(room, "{error}");
+    let text = room.as_str();
+    let words = match text.split_once(" (os error ") {
+        Some((words, _)) => words,
+        None => text,
+    };
+    let _ = eprintln!(rt; "console: {what}: {words}");
 }
 
-// After a write to standard output that failed or took nothing.
-fn is_written_again(rt: &impl Eprint, error: io::Error) -> bool {
-    is_made_again(rt, "standard output", error)
+// Tells why there is no more to hear, if a call failed.
+pub fn tell(rt: &impl Eprint, stop: Stop) {
+    match stop {
+        Stop::End => {}
+        Stop::Input(error) => tell_failure(rt, "standard input", error),
+        Stop::Output(error) => tell_failure(rt, "standard output", error),
+    }
 }
 
-// Writes all of `out` to standard output, and says whether it could. A proved loop has to end, and nothing says that a
-// reader makes room, so the tries are counted down from a number that no run uses up.
-pub fn say(rt: &(impl Print + Eprint), out: &[u8]) -> bool {
-    let mut at: usize = 0;
-    let mut tries = u64::MAX;
-    while at < out.len() {
-        if tries == 0 {
-            return false;
+// Writes all of `out` to standard output. A proved loop has to end, and nothing says that a reader makes room, so the
+// tries are counted to a number that no run comes to.
+pub fn say(rt: &impl Print, out: &[u8]) -> Result<(), Stop> {
+    let mut rest = out;
+    for _ in 0..u64::MAX {
+        if rest.is_empty() {
+            return Ok(());
         }
-        tries -= 1;
-        match rt.write_some(&out[at..]) {
-            Ok(0) => {
-                is_written_again(rt, io::Error::from(ErrorKind::WriteZero));
-                return false;
-            }
-            Ok(n) => at += n,
-            Err(error) => {
-                if !is_written_again(rt, error) {
-                    return false;
-                }
-            }
+        match rt.write_some(rest) {
+            Ok(0) => return Err(Stop::Output(io::Error::from(ErrorKind::WriteZero))),
+            Ok(n) => rest = &rest[n..],
+            Err(error) => wait(error).map_err(Stop::Output)?,
         }
     }
-    true
+    Err(Stop::End)
 }

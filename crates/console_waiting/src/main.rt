@@ -1,6 +1,7 @@
 // Changes while a round runs: orders that wait, their answers fetched, 64 places, lines that are no fetch.
 #![tactic(auto)]
 
+// The same three lines in every program of the console: each is a crate of its own, with its own input.
 fn main(rt: HostRuntime) {
     let mut board = [0; 4095];
     let mut list = [0u64; 259];

@@ -9,8 +9,8 @@ use Rattle.general.proofs.Laws.{clash}
 use Rattle.pieces.specs.Board.{weight}
 use Rattle.calls.specs.declared.Refusal.{Refusal}
 use Rattle.calls.specs.declared.Refusal.TheVariants.{Damaged, Room}
-use Rattle.calls.specs.declared.Check.{Check}
-use Rattle.calls.specs.declared.Check.TheVariants.{Clear, Refused}
+use Rattle.calls.specs.Types.{Check}
+use Rattle.std.specs.Prelude.{Ok, Err}
 use Rattle.calls.specs.Refusals.{Asked, number_of, applies, first_of, refuse_if, numbers, among}
 use Rattle.calls.specs.Answers.{Answer, number_by, values_by, beside}
 use Rattle.calls.specs.Results.{if_clear}
@@ -24,18 +24,18 @@ pub undamaged : (rs : List Refusal) (q : Asked) → applies Damaged q ≡ false 
 undamaged rs q fine = go (first_of rs q) refl
   where
     go : (k : Check) → first_of rs q ≡ k → number_by k ≡ 5 → ⊥
-    go Clear g h = absurd (omega arith)
-    go (Refused r) g h = let d : r ≡ Damaged = number_tells r Damaged h in clash (rw d at (first_applies q rs r g)) fine
+    go (Ok tt) g h = absurd (omega arith)
+    go (Err r) g h = let d : r ≡ Damaged = number_tells r Damaged h in clash (rw d at (first_applies q rs r g)) fine
 
 -- ROOM by its check alone
-pub room_number : (b : Bool) → number_by (refuse_if b Room Clear) ≡ cond b 10 0
+pub room_number : (b : Bool) → number_by (refuse_if b Room (Ok tt)) ≡ cond b 10 0
 room_number true = refl
 room_number false = refl
 
 -- and then the idle leaves; any other refusal says zero
 pub room_says : (k : Check) (vs : List ℕ) (idle : ℕ) → number_by k ≡ 10 → values_by k vs (λ r. beside (number_of r) idle ∷ []) ≡ idle ∷ []
-room_says Clear vs idle e = absurd (omega arith)
-room_says (Refused r) vs idle e = rw e refl
+room_says (Ok tt) vs idle e = absurd (omega arith)
+room_says (Err r) vs idle e = rw e refl
 
 pub beside_says : (n idle : ℕ) → beside n idle ∷ [] ≡ cond (eqb n 10) (idle ∷ []) (0 ∷ [])
 beside_says n idle = go (eqb n 10)

@@ -5,37 +5,37 @@ use mathlib.Core.List.{List, [], ◌∷◌, ◌++◌}
 use Prim.Native.Nat.{ℕ}
 use native.Mathlib.Omega.{arith}
 use Rattle.calls.specs.declared.Refusal.{Refusal}
-use Rattle.calls.specs.declared.Check.{Check}
-use Rattle.calls.specs.declared.Check.TheVariants.{Clear, Refused}
+use Rattle.calls.specs.Types.{Check}
+use Rattle.std.specs.Prelude.{Ok, Err}
 use Rattle.calls.specs.Refusals.{Asked, applies, first_of, refuse_if}
 use Rattle.calls.proofs.Laws.{first_next}
 
 -- 0 for no refusal
 abbrev code : Check → ℕ
-code Clear = 0
-code (Refused r) = 1
+code (Ok tt) = 0
+code (Err r) = 1
 
 -- the refusal, where there is one
 abbrev which : Refusal → Check → Refusal
-which q Clear = q
-which q (Refused r) = r
+which q (Ok tt) = q
+which q (Err r) = r
 
-apart : {P : Type 0} {c : Check} {r : Refusal} → c ≡ Clear → c ≡ Refused r → P
+apart : {P : Type 0} {c : Check} {r : Refusal} → c ≡ Ok tt → c ≡ Err r → P
 apart p q = absurd (let e : ◌≡◌ {A = ℕ} 0 1 = ap code (sym p ∙ q) in omega arith)
 
 module _ (a : Asked) where
-  pub none_applies : (r : Refusal) (rs : List Refusal) → applies r a ≡ false → first_of rs a ≡ Clear → first_of (r ∷ rs) a ≡ Clear
+  pub none_applies : (r : Refusal) (rs : List Refusal) → applies r a ≡ false → first_of rs a ≡ Ok tt → first_of (r ∷ rs) a ≡ Ok tt
   unfolding first_of
   none_applies r rs f e = rw f e
 
-  pub first_applies : (rs : List Refusal) (r : Refusal) → first_of rs a ≡ Refused r → applies r a ≡ true
+  pub first_applies : (rs : List Refusal) (r : Refusal) → first_of rs a ≡ Err r → applies r a ≡ true
   unfolding first_of
   first_applies [] r e = apart refl e
   first_applies (q ∷ rs) r e = go (applies q a) refl e (first_applies rs r)
     where
-      go : (b : Bool) → applies q a ≡ b → refuse_if b q (first_of rs a) ≡ Refused r → (first_of rs a ≡ Refused r → applies r a ≡ true) → applies r a ≡ true
+      go : (b : Bool) → applies q a ≡ b → refuse_if b q (first_of rs a) ≡ Err r → (first_of rs a ≡ Err r → applies r a ≡ true) → applies r a ≡ true
       go true f e ih = let g : q ≡ r = ap (which q) e in rw (← g) f
       go false f e ih = ih e
 
-  pub first_after : (rs qs : List Refusal) → first_of rs a ≡ Clear → first_of (rs ++ qs) a ≡ first_of qs a
+  pub first_after : (rs qs : List Refusal) → first_of rs a ≡ Ok tt → first_of (rs ++ qs) a ≡ first_of qs a
   first_after rs qs e = first_next rs qs a ∙ rw e refl

@@ -17,7 +17,7 @@ use Rattle.pieces.specs.Placing.{placed}
 use Rattle.pieces.specs.Tidying.{removed}
 use Rattle.pieces.proofs.Laws.{pieces_ones}
 use Rattle.calls.specs.declared.Drive.{Drive}
-use Rattle.calls.specs.declared.Check.TheVariants.{Clear}
+use Rattle.std.specs.Prelude.{Ok}
 use Rattle.calls.specs.Records.{drive_at, round_after}
 use Rattle.calls.specs.Refusals.{number_of, first_of, among, asked_add, open_may, admit_may, remove_may, slot_may, round_may, report_may, change_may, open_check, add_check, remove_check, slot_check, round_check, report_check, change_check}
 use Rattle.calls.specs.Answers.{beside}
@@ -189,7 +189,7 @@ module _ (C : ℕ) (B : List ℕ) (may : Openable C B) (acts : List Act) where
 
   -- and an add that passes the other checks is refused for ROOM exactly when its weight exceeds C less the sum of the weights held; else it is done.
   -- Refused so, it says that number,
-  pub demand_3_room : (x w : ℕ) → first_of admit_may (asked_add (reach C B acts).drive (reach C B acts).board x w) ≡ Clear
+  pub demand_3_room : (x w : ℕ) → first_of admit_may (asked_add (reach C B acts).drive (reach C B acts).board x w) ≡ Ok tt
       → ((says (Add x w) (reach C B acts)).number ≡ cond (ltb (C - total (held C B acts)) w) 10 0)
       × ((says (Add x w) (reach C B acts)).number ≡ 10 → (says (Add x w) (reach C B acts)).values ≡ (C - total (held C B acts)) ∷ [])
   demand_3_room x w e = (
@@ -206,7 +206,7 @@ module _ (C : ℕ) (B : List ℕ) (may : Openable C B) (acts : List Act) where
 
   -- At the start of a round an add passes the other checks if it has a name and a weight, and nothing is held of the name.
   pub demand_3_others : (x w : ℕ) → (reach C B acts).drive.position ≡ 1 → (x ≡ 0 → ⊥) → (w ≡ 0 → ⊥) → held_of x (held C B acts) ≡ 0
-      → first_of admit_may (asked_add (reach C B acts).drive (reach C B acts).board x w) ≡ Clear
+      → first_of admit_may (asked_add (reach C B acts).drive (reach C B acts).board x w) ≡ Ok tt
   demand_3_others = others_pass (reach C B acts) (held C B acts) r
 
   -- What is held of a name is the number of its leaves,

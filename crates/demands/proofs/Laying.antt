@@ -9,7 +9,7 @@ use Rattle.pieces.specs.Placing.{placed}
 use Rattle.pieces.specs.Fresh.{all_placed, Placeables, idle, streams, fresh}
 use Rattle.pieces.proofs.Laws.{fresh_placeable}
 use Rattle.calls.specs.declared.Drive.{Drive}
-use Rattle.calls.specs.declared.Check.TheVariants.{Clear}
+use Rattle.std.specs.Prelude.{Ok}
 use Rattle.calls.specs.Records.{drive_at}
 use Rattle.calls.specs.Refusals.{change_check}
 use Rattle.calls.specs.Results.{idle_board, round_names}
@@ -24,13 +24,13 @@ use Rattle.demands.proofs.Standing.{fresh_passes}
 
 -- ---- adds one after the other
 
-adds_laid : (d : Drive) (ss : List Stream) (D : List ℕ) → change_check d D ≡ Clear → Placeables d.capacity D ss
+adds_laid : (d : Drive) (ss : List Stream) (D : List ℕ) → change_check d D ≡ Ok tt → Placeables d.capacity D ss
     → (after (state_at d D) (adds_of ss) ≡ state_at d (all_placed d.capacity D ss)) × AllDone (log (state_at d D) (adds_of ss))
 unfolding adds_of after log AllDone all_placed Placeables
 adds_laid d [] D e p = (refl, tt)
 adds_laid d (s ∷ ss) D e p =
     let k = add_passes d D s.name s.weight e p.0 p.1 in
-    let f : change_check d (placed d.capacity D s.name s.weight) ≡ Clear = rw k at (add_keeps d D s.name s.weight ∙ e) in
+    let f : change_check d (placed d.capacity D s.name s.weight) ≡ (Ok tt) = rw k at (add_keeps d D s.name s.weight ∙ e) in
     let r = adds_laid d ss (placed d.capacity D s.name s.weight) f p.2 in
     let m : does (Add s.name s.weight) (state_at d D) ≡ state_at d (placed d.capacity D s.name s.weight) = rw k refl in
     (ap (λ (u : State). after u (adds_of ss)) m ∙ r.0, (rw k refl, subst (λ (u : State). AllDone (log u (adds_of ss))) (sym m) r.1))

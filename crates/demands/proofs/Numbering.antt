@@ -11,8 +11,8 @@ use borrow.Author.Tests.{eq-eqb, ne_eqb}
 use Rattle.sequences.specs.Serving.{leaves_from, after_slots, count_list}
 use Rattle.sequences.proofs.Laws.{leaves_at, leaves_length, round_once, round_ends, leaf_below_lem, first_position, after_slots_valid}
 use Rattle.calls.specs.declared.Drive.{Drive}
-use Rattle.calls.specs.declared.Check.{Check}
-use Rattle.calls.specs.declared.Check.TheVariants.{Clear, Refused}
+use Rattle.calls.specs.Types.{Check}
+use Rattle.std.specs.Prelude.{Ok, Err}
 use Rattle.calls.specs.Records.{drive_at, round_after}
 use Rattle.calls.specs.Refusals.{slot_check}
 use Rattle.calls.specs.Results.{served_leaf, moved_on}
@@ -50,8 +50,8 @@ drive_moves s (Slot ∷ acts) = go (slot_check s.drive s.board) refl (drive_move
   where
     go : (c : Check) → slot_check s.drive s.board ≡ c → (after (does Slot s) acts).drive ≡ drive_after (does Slot s).drive (slots_in (log (does Slot s) acts))
         → (after (does Slot s) acts).drive ≡ drive_after s.drive (slots_in (log s (Slot ∷ acts)))
-    go Clear e ih = rw e (rw e at ih)
-    go (Refused r) e ih = rw (e, number_some r) (rw e at ih)
+    go (Ok tt) e ih = rw e (rw e at ih)
+    go (Err r) e ih = rw (e, number_some r) (rw e at ih)
 
 certified : (s : State) (acts : List Act) → certificates (log s acts) ≡ certified_from s.drive (slots_in (log s acts))
 unfolding certificates names log certified_from
@@ -66,8 +66,8 @@ certified s (Slot ∷ acts) = go (slot_check s.drive s.board) refl (certified (d
     go : (c : Check) → slot_check s.drive s.board ≡ c
         → certificates (log (does Slot s) acts) ≡ certified_from (does Slot s).drive (slots_in (log (does Slot s) acts))
         → certificates (log s (Slot ∷ acts)) ≡ certified_from s.drive (slots_in (log s (Slot ∷ acts)))
-    go Clear e ih = rw e (ap (λ (cs : List Certificate). certificate_of s.drive ∷ cs) (rw e at ih))
-    go (Refused r) e ih = rw (e, number_some r) (rw e at ih)
+    go (Ok tt) e ih = rw e (ap (λ (cs : List Certificate). certificate_of s.drive ∷ cs) (rw e at ih))
+    go (Err r) e ih = rw (e, number_some r) (rw e at ih)
 
 certified_length : (d : Drive) (n : ℕ) → length (certified_from d n) ≡ n
 unfolding certified_from

@@ -3,10 +3,7 @@ use mathlib.Core.Path.{◌≡◌, ap, ap₂}
 use mathlib.Core.List.{List}
 use Prim.Native.Nat.{ℕ}
 use Rattle.calls.specs.declared.Drive.{Drive}
-use Rattle.calls.specs.declared.Checked.{Checked}
-use Rattle.calls.specs.declared.Changed.{Changed}
-use Rattle.calls.specs.declared.Served.{Served}
-use Rattle.calls.specs.declared.Reported.{Reported}
+use Rattle.calls.specs.Types.{Checked, Changed, Served, Reported}
 use Rattle.calls.specs.Answers.{change_answer, serving_answer, check_answer, report_answer}
 use Rattle.calls.specs.Promises.{Opens, Adds, Removes, Refreshes, Serves, Rounds, Reports}
 use Rattle.demands.specs.Histories.{Add, Remove, Slot, Round, Report, Fresh, does, says, opens}

@@ -14,8 +14,8 @@ use Rattle.pieces.specs.Placing.{Placeable, placed}
 use Rattle.pieces.specs.Tidying.{Removable, removed}
 use Rattle.pieces.specs.Fresh.{fresh}
 use Rattle.pieces.proofs.Laws.{opened_good, placed_good, placed_weight, placed_idle, placed_others, placed_length, removed_good, removed_name, removed_idle_lem, removed_others, removed_length, fresh_length, fresh_good, fresh_weights}
-use Rattle.calls.specs.declared.Check.{Check}
-use Rattle.calls.specs.declared.Check.TheVariants.{Clear, Refused}
+use Rattle.calls.specs.Types.{Check}
+use Rattle.std.specs.Prelude.{Ok, Err}
 use Rattle.calls.specs.Records.{drive_at}
 use Rattle.calls.specs.Refusals.{open_check, add_check, remove_check, change_check}
 use Rattle.calls.specs.Results.{idle_board, moved_on}
@@ -134,21 +134,21 @@ module _ (s : State) (hs : List Stream) (is : Sound s hs) where
   step (Add x w) = go (add_check s.drive s.board x w) refl
     where
       go : (c : Check) → add_check s.drive s.board x w ≡ c → Sound (does (Add x w) s) (next (Add x w) s hs)
-      go Clear e = rw e (added x w (add_clear s.drive s.board x w e))
-      go (Refused r) e = rw (e, number_some r) is
+      go (Ok tt) e = rw e (added x w (add_clear s.drive s.board x w e))
+      go (Err r) e = rw (e, number_some r) is
   step (Remove x) = go (remove_check s.drive s.board x) refl
     where
       go : (c : Check) → remove_check s.drive s.board x ≡ c → Sound (does (Remove x) s) (next (Remove x) s hs)
-      go Clear e = rw e (cleared x (remove_clear s.drive s.board x e))
-      go (Refused r) e = rw (e, number_some r) is
+      go (Ok tt) e = rw e (cleared x (remove_clear s.drive s.board x e))
+      go (Err r) e = rw (e, number_some r) is
   step Slot = rw (slot_clear s is.valid) moved
   step (Round O) = stays (next (Round O) s hs) (same_either (eqb (says (Round O) s).number 0) hs)
   step (Report x) = stays (next (Report x) s hs) (same_either (eqb (says (Report x) s).number 0) hs)
   step Fresh = go (change_check s.drive s.board) refl
     where
       go : (c : Check) → change_check s.drive s.board ≡ c → Sound (does Fresh s) (next Fresh s hs)
-      go Clear e = rw e laid_out
-      go (Refused r) e = rw (e, number_some r) is
+      go (Ok tt) e = rw e laid_out
+      go (Err r) e = rw (e, number_some r) is
 
 -- ---- any acts
 
@@ -205,7 +205,7 @@ module _ (C : ℕ) (B : List ℕ) (may : Openable C B) where
     nameless = refl;
   }
 
-  pub opened_clear : open_check C B ≡ Clear
+  pub opened_clear : open_check C B ≡ Ok tt
   opened_clear = open_sized C B (record { some = may.some; few = may.few; long = may.long })
 
   pub always : (acts : List Act) → Sound (reach C B acts) (held C B acts)

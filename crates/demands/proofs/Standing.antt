@@ -14,7 +14,7 @@ use Rattle.sequences.specs.Scanning.{occurrences}
 use Rattle.pieces.specs.Board.{good, weight}
 use Rattle.calls.specs.declared.Drive.{Drive}
 use Rattle.calls.specs.declared.Refusal.TheVariants.{Midround, Damaged, Name, Weight, Taken, Room}
-use Rattle.calls.specs.declared.Check.TheVariants.{Clear}
+use Rattle.std.specs.Prelude.{Ok}
 use Rattle.calls.specs.Refusals.{first_of, applies, asked, asked_add, asked_name, asked_output, add_may, admit_may, remove_may, slot_may, round_may, report_may, change_may, add_check, remove_check, slot_check, round_check, report_check, change_check}
 use Rattle.calls.specs.Results.{added_idle}
 use Rattle.calls.proofs.Laws.{change_start, admit_change, admit_clear, add_full}
@@ -65,7 +65,7 @@ module _ (s : State) (hs : List Stream) (is : Sound s hs) where
   midround Fresh e away = rw (fresh_midround s is.valid away) (refl, refl)
 
   -- at position 1 a fresh layout passes its checks
-  pub fresh_passes : s.drive.position ≡ 1 → change_check s.drive s.board ≡ Clear
+  pub fresh_passes : s.drive.position ≡ 1 → change_check s.drive s.board ≡ Ok tt
   unfolding change_check slot_check applies
   fresh_passes start =
       let q = asked s.drive B in
@@ -73,7 +73,7 @@ module _ (s : State) (hs : List Stream) (is : Sound s hs) where
       ∙ none_applies q Midround (Damaged ∷ []) (rw start refl) (none_applies q Damaged [] (ap not is.fine) refl)
 
   -- at position 1 an add of a new name passes the checks beside ROOM
-  pub others_pass : (x w : ℕ) → s.drive.position ≡ 1 → (x ≡ 0 → ⊥) → (w ≡ 0 → ⊥) → held_of x hs ≡ 0 → first_of admit_may (asked_add s.drive s.board x w) ≡ Clear
+  pub others_pass : (x w : ℕ) → s.drive.position ≡ 1 → (x ≡ 0 → ⊥) → (w ≡ 0 → ⊥) → held_of x hs ≡ 0 → first_of admit_may (asked_add s.drive s.board x w) ≡ Ok tt
   unfolding slot_check applies
   others_pass x w start named some free =
       let q = asked_add s.drive B x w in
@@ -86,7 +86,7 @@ module _ (s : State) (hs : List Stream) (is : Sound s hs) where
       (none_applies q Taken [] (rw z refl) refl))))
 
   -- and then ROOM goes by what is held
-  pub room : (x w : ℕ) → first_of admit_may (asked_add s.drive s.board x w) ≡ Clear → (says (Add x w) s).number ≡ cond (ltb (s.drive.capacity - total hs) w) 10 0
+  pub room : (x w : ℕ) → first_of admit_may (asked_add s.drive s.board x w) ≡ Ok tt → (says (Add x w) s).number ≡ cond (ltb (s.drive.capacity - total hs) w) 10 0
   unfolding add_check
   room x w e =
       let i : C - total hs ≡ weight C B 0 = let j = is.idle in omega arith in

@@ -15,216 +15,176 @@
 
 use calls::Drive;
 use std::io;
-use telling::answers::{tell_checked, tell_reported, tell_served};
-use telling::reading::{letter_at, line_end, number_at, read_text, record_of, text_room};
-use telling::stores::{put, within, within_list};
-use telling::{end_line, say, say_entries, say_record};
-use telling_orders::{tell_fetching, tell_ordered, tell_saved};
+use telling::answers::{Told, tell};
+use telling::playing::{Player, play};
+use telling::reading::{number_at, read_text, record_of};
+use telling::stores::{put, within};
+use telling::{Record, Spaced};
 
-// The records, that of the drive that acts first; how many entries of the board's store and how many numbers of the list's are lent.
+// What a line asks for.
 #[derive(Clone, Copy)]
-struct State {
-    own: Drive,
-    other: Drive,
-    board: usize,
-    list: usize,
+enum Act {
+    Lend { entries: usize },
+    Trim { numbers: usize },
+    Fix { entry: usize, name: u16 },
+    Row,
+    Call(Call),
 }
 
-fn names() -> [u16; 9] {
-    [0u16; 9]
+// A call that a line asks for, or no call but that the records are said.
+#[derive(Clone, Copy)]
+enum Call {
+    Hold(Drive),
+    Add { name: u16, weight: u16 },
+    Remove(u16),
+    Slot,
+    Round,
+    Report(u16),
+    Save,
+    Open(u16),
+    Fetch(u64),
+    Read,
+    Records,
 }
 
-fn rounds(rt: &impl Print, own: Drive, other: Drive, board: &[u16]) -> io::Result<Drive> {
-    let mut output = names();
-    let after = tell_checked(rt, drives::round(own, other, board, &mut output))?;
-    say_entries(rt, &output, 0, 9)?;
-    Ok(after)
-}
-
-fn fetches(rt: &impl Print, own: Drive, list: &mut [u64], ticket: u64) -> io::Result<Drive> {
-    tell_fetching(rt, waiting::fetch(list, ticket))?;
-    Ok(own)
-}
-
-// The third letter of an act, which tells it; a remark has none.
-fn letter_of(line: &[u8]) -> u8 {
-    if letter_at(line, 0) == b'-' {
-        return b'-';
-    }
-    letter_at(line, 4)
-}
-
-// Makes the call of the own drive that a line stands for, if it stands for one.
-fn call(
-    rt: &impl Print,
-    s: State,
-    line: &[u8],
-    board: &mut [u16],
-    list: &mut [u64],
-    sheet: &mut [u8],
-) -> io::Result<Drive> {
-    let own = s.own;
-    let other = s.other;
-    let n = number_at(line, 0);
-    match letter_of(line) {
-        b'l' => Ok(record_of(line)),
-        b'd' => tell_ordered(
-            rt,
-            drives::add(own, other, board, list, n, number_at(line, 1)),
-        ),
-        b'm' => tell_ordered(rt, drives::remove(own, other, board, list, n)),
-        b'o' => tell_served(rt, drives::slot(own, other, board, list)),
-        b'u' => rounds(rt, own, other, board),
-        b'p' => tell_reported(rt, drives::report(own, other, board, n)),
-        b'v' => tell_saved(rt, drives::save(own, other, board, sheet)),
-        b'e' => tell_checked(rt, orders::open(n, board, list)),
-        b'a' => tell_checked(rt, orders::read(sheet, board, list)),
-        b't' => fetches(rt, own, list, n as u64),
-        _ => Ok(own),
-    }
-}
-
-// Makes the call of a line, on what is lent. Open and read give both drives their record.
-fn carry_out(
-    rt: &impl Print,
-    s: State,
-    line: &[u8],
-    board: &mut [u16],
-    list: &mut [u64],
-    sheet: &mut [u8],
-) -> io::Result<State> {
-    let m = within(s.board, board);
-    let n = within_list(s.list, list);
-    let own = call(rt, s, line, &mut board[..m], &mut list[..n], sheet)?;
-    let other = other_after(letter_of(line), own, s.other);
-    Ok(State {
-        own,
-        other,
-        board: m,
-        list: n,
-    })
-}
-
-fn other_after(letter: u8, own: Drive, other: Drive) -> Drive {
-    match letter {
-        b'e' | b'a' => own,
-        _ => other,
-    }
-}
-
-// The state as the drive that a line begins with has it.
-fn turned(s: State, line: &[u8]) -> State {
-    let own = s.own;
-    let other = s.other;
-    if letter_at(line, 0) == b'b' {
-        return State {
-            own: other,
-            other: own,
-            board: s.board,
-            list: s.list,
+impl Act {
+    // The act of a line, which is told from others by its fifth letter; a remark has none, or begins with a dash. One letter tells the acts, so that remarks and
+    // longer words read as they do: whole words would act otherwise on other inputs.
+    fn parse(line: &[u8]) -> Option<Act> {
+        let letter = line.get(4)?;
+        if line.first() == Some(&b'-') {
+            return None;
+        }
+        let x = number_at(line, 0);
+        let n = usize::from(x);
+        let act = match letter {
+            b'-' => return None,
+            b'n' => Act::Lend { entries: n },
+            b'i' => Act::Trim { numbers: 250 + n },
+            b'x' => Act::Fix {
+                entry: n,
+                name: number_at(line, 1),
+            },
+            b'w' => Act::Row,
+            letter => Act::Call(Call::parse(*letter, line)),
         };
+        Some(act)
     }
-    s
 }
 
-// Carries out a line that makes no call.
-fn arrange(rt: &impl Print, mut s: State, line: &[u8], board: &mut [u16]) -> io::Result<State> {
-    let n = number_at(line, 0) as usize;
-    match letter_of(line) {
-        b'n' => {
-            s.board = n;
+impl Call {
+    // The call of a line with such a fifth letter; see `Act::parse`.
+    fn parse(letter: u8, line: &[u8]) -> Call {
+        let x = number_at(line, 0);
+        match letter {
+            b'l' => Call::Hold(record_of(line)),
+            b'd' => Call::Add {
+                name: x,
+                weight: number_at(line, 1),
+            },
+            b'm' => Call::Remove(x),
+            b'o' => Call::Slot,
+            b'u' => Call::Round,
+            b'p' => Call::Report(x),
+            b'v' => Call::Save,
+            b'e' => Call::Open(x),
+            b't' => Call::Fetch(u64::from(x)),
+            b'a' => Call::Read,
+            _ => Call::Records,
         }
-        b'i' => {
-            s.list = 250 + n;
-        }
-        b'x' => put(board, n, number_at(line, 1)),
-        b'w' => {
-            say(rt, b":")?;
-            say_entries(rt, board, 0, 9)?;
-        }
-        _ => {}
     }
-    Ok(s)
 }
 
-// Makes the call of a line and says the records.
-fn act(
-    rt: &impl Print,
-    s: State,
-    line: &[u8],
-    board: &mut [u16],
-    list: &mut [u64],
-    sheet: &mut [u8],
-) -> io::Result<State> {
-    say(rt, b":")?;
-    let after = turned(
-        carry_out(rt, turned(s, line), line, board, list, sheet)?,
-        line,
-    );
-    let first = after.own;
-    let second = after.other;
-    say_record(rt, first)?;
-    say_record(rt, second)?;
-    Ok(after)
+// The records of the two drives, a's first; how many entries of the board's store and how many numbers of the list's are lent; and the stores.
+#[derive(Drop)]
+struct Desk {
+    drives: [Drive; 2],
+    entries: usize,
+    numbers: usize,
+    board: [u16; 9],
+    list: [u64; 260],
+    sheet: [u8; 512],
 }
 
-// Carries out a line.
-fn next(
-    rt: &impl Print,
-    s: State,
-    line: &[u8],
-    board: &mut [u16],
-    list: &mut [u64],
-    sheet: &mut [u8],
-) -> io::Result<State> {
-    say(rt, line)?;
-    match letter_of(line) {
-        b'n' | b'i' | b'x' | b'w' | b'-' => arrange(rt, s, line, board),
-        _ => act(rt, s, line, board, list, sheet),
+impl Desk {
+    // Makes a call of the first drive beside the second. Open and read give both drives their record.
+    fn call(mut self, rt: &impl Print, call: Call) -> io::Result<Desk> {
+        let m = within(self.entries, &self.board);
+        let n = within(self.numbers, &self.list);
+        let [own, other] = self.drives;
+        let board = &mut self.board[..m];
+        let list = &mut self.list[..n];
+        let after = match call {
+            Call::Hold(drive) => silent(rt, drive)?,
+            Call::Add { name, weight } => {
+                tell(rt, drives::add(own, other, board, list, name, weight))?
+            }
+            Call::Remove(name) => tell(rt, drives::remove(own, other, board, list, name))?,
+            Call::Slot => tell(rt, drives::slot(own, other, board, list))?,
+            Call::Round => {
+                let mut output = [0; 9];
+                let after = tell(rt, drives::round(own, other, board, &mut output))?;
+                print!(rt; "{}", Spaced(&output))?;
+                after
+            }
+            Call::Report(name) => tell(rt, drives::report(own, other, board, name))?,
+            Call::Save => tell(rt, drives::save(own, other, board, &mut self.sheet))?,
+            Call::Open(capacity) => tell(rt, orders::open(capacity, board, list))?,
+            Call::Read => tell(rt, orders::read(&self.sheet, board, list))?,
+            Call::Fetch(ticket) => {
+                print!(rt; ": {}", Told(waiting::fetch(list, ticket)))?;
+                own
+            }
+            Call::Records => silent(rt, own)?,
+        };
+        let both = matches!(call, Call::Open(_) | Call::Read);
+        self.drives = [after, if both { after } else { other }];
+        Ok(self)
+    }
+}
+
+// The colon before the records where a line says nothing else; gives back the record.
+fn silent(rt: &impl Print, drive: Drive) -> io::Result<Drive> {
+    rt.print(":")?;
+    Ok(drive)
+}
+
+impl Player for Desk {
+    // A line begins with the drive that acts, a where it isn't b.
+    fn play(mut self, rt: &impl Print, line: &[u8]) -> io::Result<Desk> {
+        match Act::parse(line) {
+            None => {}
+            Some(Act::Lend { entries }) => self.entries = entries,
+            Some(Act::Trim { numbers }) => self.numbers = numbers,
+            Some(Act::Fix { entry, name }) => put(&mut self.board, entry, name),
+            Some(Act::Row) => print!(rt; ":{}", Spaced(&self.board))?,
+            Some(Act::Call(call)) => {
+                let turned = line.first() == Some(&b'b');
+                if turned {
+                    self.drives.swap(0, 1);
+                }
+                self = self.call(rt, call)?;
+                if turned {
+                    self.drives.swap(0, 1);
+                }
+                let [a, b] = self.drives;
+                print!(rt; " {} {}", Record(a), Record(b))?;
+            }
+        }
+        Ok(self)
     }
 }
 
 // No board is lent, and the list has all its numbers.
-fn unopened() -> State {
-    State {
-        own: Drive::new(0, 0),
-        other: Drive::new(0, 0),
-        board: 0,
-        list: 259,
-    }
-}
-
-fn play(
-    rt: &impl Print,
-    text: &[u8],
-    board: &mut [u16],
-    list: &mut [u64],
-    sheet: &mut [u8],
-) -> io::Result<()> {
-    let mut s = unopened();
-    let mut at: usize = 0;
-    while at < text.len() {
-        let end = line_end(text, at);
-        s = next(rt, s, &text[at..end], board, list, sheet)?;
-        end_line(rt)?;
-        at = end + 1;
-    }
-    Ok(())
-}
-
-fn numbers() -> [u64; 260] {
-    [0u64; 260]
-}
-
-fn sheet_bytes() -> [u8; 512] {
-    [0u8; 512]
-}
-
 fn main(rt: HostRuntime) -> io::Result<()> {
-    let mut text = text_room();
-    let n = read_text(&rt, &mut text)?;
-    let mut board = names();
-    let mut list = numbers();
-    let mut sheet = sheet_bytes();
-    play(&rt, &text[..n], &mut board, &mut list, &mut sheet)
+    let text = read_text(rt.alloc(), rt.reader())?;
+    let desk = Desk {
+        drives: [Drive::new(0, 0), Drive::new(0, 0)],
+        entries: 0,
+        numbers: 259,
+        board: [0; 9],
+        list: [0; 260],
+        sheet: [0; 512],
+    };
+    play(&rt, &text, desk)
 }

@@ -4,7 +4,6 @@ use mathlib.Core.Path.{◌≡◌, refl, ap, ◌∙◌}
 use mathlib.Core.Bool.{Bool, true, false, not}
 use mathlib.Core.List.{List, [], ◌∷◌}
 use Prim.Native.Nat.{ℕ, ◌*◌}
-use native.Mathlib.Omega.{arith}
 use lib.Dec.{eqb}
 use lib.ListN.{length}
 use borrow.Author.Tests.{eqb-true}
@@ -12,24 +11,21 @@ use Rattle.general.proofs.Laws.{unique}
 use Rattle.calls.specs.declared.Drive.{Drive}
 use Rattle.calls.specs.declared.Refusal.{Refusal}
 use Rattle.calls.specs.declared.Refusal.TheVariants.{Midround}
-use Rattle.calls.specs.declared.Check.{Check}
-use Rattle.calls.specs.declared.Check.TheVariants.{Clear, Refused}
-use Rattle.calls.specs.declared.Checked.{Checked}
-use Rattle.calls.specs.declared.Served.{Served}
-use Rattle.calls.specs.declared.Reported.{Reported}
+use Rattle.calls.specs.Types.{Check, Checked, Served, Reported}
+use Rattle.std.specs.Prelude.{Ok, Err}
 use Rattle.calls.specs.Refusals.{zero_or, refuse_if, numbers, among, asked, asked_name, asked_output, slot_may, round_may, report_may, change_may, round_check, report_check, change_check}
 use Rattle.calls.specs.Answers.{Answer, serving_answer, report_answer, check_answer}
 use Rattle.calls.specs.Results as plain
 use Rattle.calls.proofs.Laws.{first_clear, then_clear, Refuses, refuses, refusal, may, within_among, first_within, then_within, if_within, covers, part_within, either_same}
-use Rattle.sheets.specs.declared.Saved.{Saved}
+use Rattle.sheets.specs.Types.{Saved}
 use Rattle.sheets.specs.Sheet.{blocks}
 use Rattle.sheets.specs.Forms.{size_of, saving_check, saved_output_as}
 use Rattle.sheets.specs.Results.{save_may, save_check, saving_answer, save_pieces_may, piece_form}
 use Rattle.waiting.specs.declared.Order.{Order}
 use Rattle.waiting.specs.Layout.{too_short, taken, taken_list}
-use Rattle.orders.specs.declared.Ordered.{Ordered}
-use Rattle.orders.specs.declared.Ordering.TheVariants as ordering
-use Rattle.orders.specs.declared.Way.TheVariants as way
+use Rattle.orders.specs.Types.{Ordered}
+use Rattle.orders.specs.declared.Declined.TheVariants as declined
+use Rattle.orders.specs.declared.Moment.TheVariants as moment
 use Rattle.orders.specs.Answers.{ordering_answer, listed}
 use Rattle.orders.specs.Results.{add_order, remove_order}
 use Rattle.drives.specs.Checks.{list_check, look_check, both_start, way_of, start_check, pair_round_check, pair_report_check, pair_save_check, level_check, pair_pieces_check, pair_fresh_check}
@@ -49,13 +45,12 @@ pub use Rattle.drives.proofs.Single.{one_start, one_list, one_look, one_way, cha
 pub use Rattle.drives.proofs.Alike.{add_alike, remove_alike, carried_alike, answer_alike, board_alike, all_alike, outcomes_alike, ran_alike}
 -- ---- what is made at once: the first checks are clear, both drives are at the start of a round, and no order waits. The numbers that are answered
 
-pub use Rattle.drives.proofs.Answering.{AtOnce, start_both, now_both, pair_within, add_answers, remove_answers}
+pub use Rattle.drives.proofs.Answering.{AtOnce, start_both, now_both, pair_within, add_answers, remove_answers, add_order_lem, remove_order_lem, way_now, way_within, start_within, carried_still}
+
 -- ---- for calls that have more to check: the numbers of an order that is to wait, of a way, and of a call at position 1; and an order that is not done changes nothing
 
-pub use Rattle.drives.proofs.Answering.{add_order_lem, remove_order_lem, way_now, way_within, start_within, carried_still}
-
 -- Records that pass the checks together and are both at the start of a round have equal C and p.
-pub both_alike : (a b : Drive) (B : List ℕ) (n : ℕ) → list_check a b B n ≡ Clear → both_start a b ≡ true → (a.capacity ≡ b.capacity) × (a.position ≡ b.position)
+pub both_alike : (a b : Drive) (B : List ℕ) (n : ℕ) → list_check a b B n ≡ Ok tt → both_start a b ≡ true → (a.capacity ≡ b.capacity) × (a.position ≡ b.position)
 both_alike a b B n e t = let p = start_both a b t in ((pair_clear a b B (too_short n) e).same, unique p.0 p.1)
 
 -- ---- neither drive comes first: which of the two makes a call decides neither the way of a change nor what a slot leaves of the board and the list
@@ -66,8 +61,8 @@ module _ (a b : Drive) (B L : List ℕ) where
   way_swap o = go (list_check a b B (length L)) refl
     where
       go : (k : Check) → list_check a b B (length L) ≡ k → way_of a b B L o ≡ way_of b a B L o
-      go Clear e = rw (pair_swap a b B (too_short (length L)), start_swap a b, (pair_clear a b B (too_short (length L)) e).same) refl
-      go (Refused r) e = rw (← pair_swap a b B (too_short (length L)), e) refl
+      go (Ok tt) e = rw (pair_swap a b B (too_short (length L)), start_swap a b, (pair_clear a b B (too_short (length L)) e).same) refl
+      go (Err r) e = rw (← pair_swap a b B (too_short (length L)), e) refl
 
   pub slot_swap : (served_board a b B L ≡ served_board b a B L) × (served_list a b B L ≡ served_list b a B L)
   unfolding board_then list_then
@@ -75,9 +70,9 @@ module _ (a b : Drive) (B L : List ℕ) where
     where
       go : (k : Check) → list_check a b B (length L) ≡ k → (t : Bool) → both_start a b ≡ t
           → (served_board a b B L ≡ served_board b a B L) × (served_list a b B L ≡ served_list b a B L)
-      go (Refused r) e t s = rw (← pair_swap a b B (too_short (length L)), e) (refl, refl)
-      go Clear e false s = rw (← pair_swap a b B (too_short (length L)), e, ← start_swap a b, s) (refl, refl)
-      go Clear e true s =
+      go (Err r) e t s = rw (← pair_swap a b B (too_short (length L)), e) (refl, refl)
+      go (Ok tt) e false s = rw (← pair_swap a b B (too_short (length L)), e, ← start_swap a b, s) (refl, refl)
+      go (Ok tt) e true s =
           let same = both_alike a b B (length L) e s in
           rw (← pair_swap a b B (too_short (length L)), e, ← start_swap a b, s) (ran_alike a b same.0 same.1 B L)
 
@@ -87,9 +82,9 @@ unfolding pair_fresh_check start_check change_check
 fresh_swap a b B = go (look_check a b B) refl (both_start a b) refl
   where
     go : (k : Check) → look_check a b B ≡ k → (t : Bool) → both_start a b ≡ t → (pair_fresh_check a b B ≡ pair_fresh_check b a B) × (refreshed_board a b B ≡ refreshed_board b a B)
-    go (Refused r) e t s = rw (← pair_swap a b B false, e) (refl, refl)
-    go Clear e false s = rw (← pair_swap a b B false, e, ← start_swap a b, s) (refl, refl)
-    go Clear e true s =
+    go (Err r) e t s = rw (← pair_swap a b B false, e) (refl, refl)
+    go (Ok tt) e false s = rw (← pair_swap a b B false, e, ← start_swap a b, s) (refl, refl)
+    go (Ok tt) e true s =
         let p = start_both a b s in
         let same = (pair_clear a b B false e).same in
         rw (← pair_swap a b B false, e, ← start_swap a b, s, p.0, p.1, same) (refl, refl)
@@ -108,12 +103,12 @@ module _ (a b : Drive) (B L : List ℕ) where
       (ap (λ (r : Ordered). r.drive) p.0, p.2 ∙ s.0, λ n. p.3 ∙ s.1 (λ e. n (ap (λ (x : Answer). x.number) p.1 ∙ e)))
 
   -- A refusal of the first checks, or of an order that would wait, changes nothing,
-  pub refused_nothing : (o : Order) (r : Refusal) → way_of a b B L o ≡ way.Refused r
-      → (changed a b B L o ≡ record { drive = a; answer = ordering.Refused r }) × (changed_board a b B L o ≡ B) × (changed_list a b B L o ≡ L)
+  pub refused_nothing : (o : Order) (r : Refusal) → way_of a b B L o ≡ Err r
+      → (changed a b B L o ≡ record { drive = a; answer = Err (declined.Refused r) }) × (changed_board a b B L o ≡ B) × (changed_list a b B L o ≡ L)
   refused_nothing o r e = (rw e refl, rw e refl, rw e refl)
 
   -- and an order that waits the list alone.
-  pub waits_list : (o : Order) → way_of a b B L o ≡ way.Wait
+  pub waits_list : (o : Order) → way_of a b B L o ≡ Ok moment.Later
       → (changed a b B L o ≡ record { drive = a; answer = listed (taken L) }) × (changed_board a b B L o ≡ B) × (changed_list a b B L o ≡ taken_list L o)
   waits_list o e = (rw e refl, rw e refl, rw e refl)
 
@@ -225,24 +220,24 @@ module _ (a b : Drive) (B O : List ℕ) where
       let apart = not (eqb a.position b.position) in
       within_among save_may (pair_pieces_check a b B (length O))
       (then_within ns (level_check a b B) (saving_check piece_form a B (length O))
-      (behind_within a b B ns (refuse_if apart Midround Clear) refl (if_within ns apart Midround Clear refl refl))
+      (behind_within a b B ns (refuse_if apart Midround (Ok tt)) refl (if_within ns apart Midround (Ok tt) refl refl))
       (part_within ns (numbers save_pieces_may) (saving_check piece_form a B (length O)) refl (first_within save_pieces_may (asked_output a B (length O) (size_of piece_form a B)))))
 
   pub save_pieces_may_lem : {r : Saved} {E : List ℕ} → SavesPieces a b B O r E → among (saving_answer r.answer).number save_may ≡ true
   save_pieces_may_lem p = may save_may p.1 save_pieces_answers
 
   -- Where it is done both drives are at the position saved, and it is that of one drive.
-  pub save_pieces_one_drive : pair_pieces_check a b B (length O) ≡ Clear
-      → (a.position ≡ b.position) × (saving_check piece_form a B (length O) ≡ Clear) × (saved_pieces_output a b B O ≡ saved_output_as piece_form a B O)
+  pub save_pieces_one_drive : pair_pieces_check a b B (length O) ≡ Ok tt
+      → (a.position ≡ b.position) × (saving_check piece_form a B (length O) ≡ Ok tt) × (saved_pieces_output a b B O ≡ saved_output_as piece_form a B O)
   unfolding pair_pieces_check level_check
   save_pieces_one_drive e =
       let k = then_clear (level_check a b B) (saving_check piece_form a B (length O)) e in
-      let level = then_clear (look_check a b B) (refuse_if (not (eqb a.position b.position)) Midround Clear) (first_clear (level_check a b B) (saving_check piece_form a B (length O)) e) in
+      let level = then_clear (look_check a b B) (refuse_if (not (eqb a.position b.position)) Midround (Ok tt)) (first_clear (level_check a b B) (saving_check piece_form a B (length O)) e) in
       (level_same (eqb a.position b.position) refl level, k, rw (e, k) refl)
     where
-      level_same : (t : Bool) → eqb a.position b.position ≡ t → refuse_if (not t) Midround Clear ≡ Clear → a.position ≡ b.position
+      level_same : (t : Bool) → eqb a.position b.position ≡ t → refuse_if (not t) Midround (Ok tt) ≡ Ok tt → a.position ≡ b.position
       level_same true e z = eqb-true a.position b.position e
-      level_same false e z = let y : ◌≡◌ {A = ℕ} 0 1 = cc in absurd (omega arith)
+      level_same false e z = cc
 
 -- ---- the fresh layout
 
@@ -264,6 +259,6 @@ module _ (a b : Drive) (B : List ℕ) where
   fresh_may p = may change_may p.1 fresh_answers
 
   -- Where it is done it is that of one drive.
-  pub fresh_one_drive : pair_fresh_check a b B ≡ Clear → (change_check a B ≡ Clear) × (refreshed_board a b B ≡ plain.refreshed_board a B)
+  pub fresh_one_drive : pair_fresh_check a b B ≡ Ok tt → (change_check a B ≡ Ok tt) × (refreshed_board a b B ≡ plain.refreshed_board a B)
   unfolding pair_fresh_check
   fresh_one_drive e = let k = then_clear (start_check a b B) (change_check a B) e in (k, rw (e, k) refl)

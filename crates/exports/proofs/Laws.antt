@@ -6,7 +6,7 @@ use Prim.Native.Nat.{ℕ}
 use lib.ListN.{length}
 use Rattle.general.proofs.Laws.{unique}
 use Rattle.calls.specs.declared.Drive.{Drive}
-use Rattle.calls.specs.declared.Served.{Served}
+use Rattle.calls.specs.Types.{Served}
 use Rattle.calls.proofs.Laws.{refusal}
 use Rattle.orders.specs.Results as single
 use Rattle.drives.specs.Checks.{list_check}

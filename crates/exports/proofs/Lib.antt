@@ -2,4 +2,5 @@
 pub mod Laws
 pub mod ShareLaws
 mod ShareTurns
+mod Steps
 mod Turns

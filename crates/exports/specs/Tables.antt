@@ -11,7 +11,7 @@ use Rattle.share_boards.specs.Opening.{opened, opened_answer, opened_state, open
 use Rattle.shares.specs.Results.{changed_answer, changed_state, changed_list}
 use Rattle.share_boards.specs.Looking.{rounded_answer, rounded_output, reported_answer}
 use Rattle.share_boards.specs.Starting.{saved_answer, saved_output, saved_pieces_answer, saved_pieces_output, refreshed_answer, refreshed_state}
-use Rattle.groups.specs.declared.Importing.{Importing}
+use Rattle.groups.specs.Types.{Importing}
 use Rattle.groups.specs.Results.{importing_answer, result_by, board_by, list_by, output_by, table_by}
 use Rattle.replies.specs.declared.Reply.{Reply}
 use Rattle.replies.specs.Replies.{reply}

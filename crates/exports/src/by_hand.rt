@@ -23,12 +23,10 @@ pub fn mandrozsi_pair_batch(
     ensures { promises.Batches own other board.old list.old table.old result board.new list.new table.new }
 {
     let mut here = own;
-    let mut i = 0;
-    while i < table.len() {
-        let done = batch::carry_entry(here, other, board, list, table[i]);
+    for entry in table.iter_mut() {
+        let done = batch::carry_entry(here, other, board, list, *entry);
         here = done.drive;
-        table[i] = done.entry;
-        i += 1;
+        *entry = done.entry;
     }
     here
 }
@@ -47,14 +45,12 @@ pub fn mandrozsi_share_batch(
     ensures { share_promises.Batches own other (lent board.old rates.old owed.old owed_other.old) list.old table.old result (lent board.new rates.new owed.new owed_other.new) list.new table.new }
 {
     let mut here = own;
-    let mut i = 0;
-    while i < table.len() {
+    for entry in table.iter_mut() {
         let done = share_batch::carry_entry(
-            here, other, board, list, rates, owed, owed_other, table[i],
+            here, other, board, list, rates, owed, owed_other, *entry,
         );
         here = done.drive;
-        table[i] = done.entry;
-        i += 1;
+        *entry = done.entry;
     }
     here
 }

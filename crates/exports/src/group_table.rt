@@ -18,7 +18,7 @@ pub fn mandrozsi_import(
 ) -> Reply
     ensures { (result ≡ reply (results.imported capacity starts.now names.now board.old list.old output.old).drive (results.imported_answer capacity starts.now names.now board.old list.old output.old)) × (board.new ≡ results.imported_board capacity starts.now names.now board.old list.old output.old) × (list.new ≡ results.imported_list capacity starts.now names.now board.old list.old output.old) × (output.new ≡ results.imported_output capacity starts.now names.now board.old list.old output.old) }
 {
-    replies::of_imported(groups::import(capacity, starts, names, board, list, output))
+    Reply::from(groups::import(capacity, starts, names, board, list, output))
 }
 
 // Imports a group table where the tables of over-allocated streams are lent: they are cleared.
@@ -35,7 +35,7 @@ pub fn mandrozsi_share_import(
 ) -> Reply
     ensures { ShareImports (results.finds_shares capacity starts.now names.now board.old rates.old owed.old owed_other.old list.old output.old) capacity starts.now names.now (lent board.old rates.old owed.old owed_other.old) list.old output.old result (lent board.new rates.new owed.new owed_other.new) list.new output.new }
 {
-    replies::of_imported(groups::import_shares(
+    Reply::from(groups::import_shares(
         capacity, starts, names, board, rates, owed, owed_other, list, output,
     ))
 }

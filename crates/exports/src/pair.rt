@@ -19,7 +19,7 @@ pub fn mandrozsi_pair_add(
 ) -> Reply
     ensures { (result ≡ reply own (results.changed_answer own other board.old list.old (add_order name weight))) × (board.new ≡ results.changed_board own other board.old list.old (add_order name weight)) × (list.new ≡ results.changed_list own other board.old list.old (add_order name weight)) }
 {
-    replies::of_ordered(drives::add(own, other, board, list, name, weight))
+    Reply::from(drives::add(own, other, board, list, name, weight))
 }
 
 // Removes a stream, likewise.
@@ -32,40 +32,40 @@ pub fn mandrozsi_pair_remove(
 ) -> Reply
     ensures { (result ≡ reply own (results.changed_answer own other board.old list.old (remove_order name))) × (board.new ≡ results.changed_board own other board.old list.old (remove_order name)) × (list.new ≡ results.changed_list own other board.old list.old (remove_order name)) }
 {
-    replies::of_ordered(drives::remove(own, other, board, list, name))
+    Reply::from(drives::remove(own, other, board, list, name))
 }
 
 // Serves a slot of the own drive, whose record moves on. Where both drives are at the start of a round the orders that wait are carried out first.
 pub fn mandrozsi_pair_slot(own: Drive, other: Drive, board: &mut [u16], list: &mut [u64]) -> Reply
     ensures { (result ≡ reply (results.served own other board.old list.old).drive (results.served_answer own other board.old list.old)) × (board.new ≡ results.served_board own other board.old list.old) × (list.new ≡ results.served_list own other board.old list.old) }
 {
-    replies::of_served(drives::slot(own, other, board, list))
+    Reply::from(drives::slot(own, other, board, list))
 }
 
 // Writes the names of a full round to the start of the output.
 pub fn mandrozsi_pair_round(own: Drive, other: Drive, board: &[u16], output: &mut [u16]) -> Reply
     ensures { (result ≡ reply own (results.rounded_answer own other board.now output.old)) × (output.new ≡ results.rounded_output own other board.now output.old) }
 {
-    replies::of_checked(drives::round(own, other, board, output))
+    Reply::from(drives::round(own, other, board, output))
 }
 
 // Reports on a stream: weight, number of pieces, spacing.
 pub fn mandrozsi_pair_report(own: Drive, other: Drive, board: &[u16], name: u16) -> Reply
     ensures { result ≡ reply own (results.reported_answer own other board.now name) }
 {
-    replies::of_reported(drives::report(own, other, board, name))
+    Reply::from(drives::report(own, other, board, name))
 }
 
 // Saves a board, where both drives are at the start of a round.
 pub fn mandrozsi_pair_save(own: Drive, other: Drive, board: &[u16], output: &mut [u8]) -> Reply
     ensures { (result ≡ reply own (results.saved_answer own other board.now output.old)) × (output.new ≡ results.saved_output own other board.now output.old) }
 {
-    replies::of_saved(drives::save(own, other, board, output))
+    Reply::from(drives::save(own, other, board, output))
 }
 
 // Lays the board out afresh, where both drives are at the start of a round.
 pub fn mandrozsi_pair_fresh(own: Drive, other: Drive, board: &mut [u16]) -> Reply
     ensures { (result ≡ reply own (results.refreshed_answer own other board.old)) × (board.new ≡ results.refreshed_board own other board.old) }
 {
-    replies::of_checked(drives::fresh(own, other, board))
+    Reply::from(drives::fresh(own, other, board))
 }

@@ -20,7 +20,7 @@ pub fn mandrozsi_share_open(
 ) -> Reply
     ensures { promises.ShareOpens capacity (lent board.old rates.old owed.old owed_other.old) list.old result (lent board.new rates.new owed.new owed_other.new) list.new }
 {
-    replies::of_checked(share_boards::opening::open(capacity, board, list, rates, owed, owed_other))
+    Reply::from(share_boards::opening::open(capacity, board, list, rates, owed, owed_other))
 }
 
 // Reads a sheet, clears the tables, and empties the list.
@@ -34,7 +34,7 @@ pub fn mandrozsi_share_read(
 ) -> Reply
     ensures { promises.ShareLoads sheet.now (lent board.old rates.old owed.old owed_other.old) list.old result (lent board.new rates.new owed.new owed_other.new) list.new }
 {
-    replies::of_checked(share_boards::opening::read(sheet, board, list, rates, owed, owed_other))
+    Reply::from(share_boards::opening::read(sheet, board, list, rates, owed, owed_other))
 }
 
 // Admits a stream, at once or by an order that waits.
@@ -51,7 +51,7 @@ pub fn mandrozsi_share_add(
 ) -> Reply
     ensures { promises.ShareOrders own other (lent board.old rates.old owed.old owed_other.old) list.old (add_order name weight) result (lent board.new rates.new owed.new owed_other.new) list.new }
 {
-    replies::of_ordered(shares::add(
+    Reply::from(shares::add(
         own, other, board, list, rates, owed, owed_other, name, weight,
     ))
 }
@@ -70,7 +70,7 @@ pub fn mandrozsi_share_over(
 ) -> Reply
     ensures { promises.ShareOrders own other (lent board.old rates.old owed.old owed_other.old) list.old (over_order name weight) result (lent board.new rates.new owed.new owed_other.new) list.new }
 {
-    replies::of_ordered(shares::over(
+    Reply::from(shares::over(
         own, other, board, list, rates, owed, owed_other, name, weight,
     ))
 }
@@ -88,7 +88,7 @@ pub fn mandrozsi_share_remove(
 ) -> Reply
     ensures { promises.ShareOrders own other (lent board.old rates.old owed.old owed_other.old) list.old (remove_order name) result (lent board.new rates.new owed.new owed_other.new) list.new }
 {
-    replies::of_ordered(shares::remove(own, other, board, list, rates, owed, owed_other, name))
+    Reply::from(shares::remove(own, other, board, list, rates, owed, owed_other, name))
 }
 
 // Serves a slot of the own drive, whose record moves on: an over-allocated stream takes its turn by the deficits of that drive. Where both drives are at the start
@@ -104,7 +104,7 @@ pub fn mandrozsi_share_slot(
 ) -> Reply
     ensures { ShareServes own other (lent board.old rates.old owed.old owed_other.old) list.old result (lent board.new rates.new owed.new owed_other.new) list.new }
 {
-    replies::of_served(shares::slot(own, other, board, list, rates, owed, owed_other))
+    Reply::from(shares::slot(own, other, board, list, rates, owed, owed_other))
 }
 
 // Writes the names of a full round, every deficit taken as 0.
@@ -119,9 +119,7 @@ pub fn mandrozsi_share_round(
 ) -> Reply
     ensures { promises.ShareRounds own other (lent board.now rates.now owed.now owed_other.now) output.old result output.new }
 {
-    replies::of_checked(share_boards::looking::round(
-        own, other, board, rates, owed, owed_other, output,
-    ))
+    Reply::from(share_boards::looking::round(own, other, board, rates, owed, owed_other, output))
 }
 
 // Reports on a stream: r of one that is over-allocated.
@@ -136,9 +134,7 @@ pub fn mandrozsi_share_report(
 ) -> Reply
     ensures { promises.ShareReports own other (lent board.now rates.now owed.now owed_other.now) name result }
 {
-    replies::of_reported(share_boards::looking::report(
-        own, other, board, rates, owed, owed_other, name,
-    ))
+    Reply::from(share_boards::looking::report(own, other, board, rates, owed, owed_other, name))
 }
 
 // Saves a board that holds no over-allocated stream.
@@ -153,9 +149,7 @@ pub fn mandrozsi_share_save(
 ) -> Reply
     ensures { promises.ShareSaves own other (lent board.now rates.now owed.now owed_other.now) output.old result output.new }
 {
-    replies::of_share_saved(share_boards::starting::save(
-        own, other, board, rates, owed, owed_other, output,
-    ))
+    Reply::from(share_boards::starting::save(own, other, board, rates, owed, owed_other, output))
 }
 
 // Lays the board out afresh; the tables follow.
@@ -169,7 +163,7 @@ pub fn mandrozsi_share_fresh(
 ) -> Reply
     ensures { promises.ShareRefreshes own other (lent board.old rates.old owed.old owed_other.old) result (lent board.new rates.new owed.new owed_other.new) }
 {
-    replies::of_checked(share_boards::starting::fresh(own, other, board, rates, owed, owed_other))
+    Reply::from(share_boards::starting::fresh(own, other, board, rates, owed, owed_other))
 }
 
 // Reads a sheet of pieces, at the position that it has, clears the tables, and empties the list.
@@ -183,9 +177,7 @@ pub fn mandrozsi_share_read_pieces(
 ) -> Reply
     ensures { promises.ShareLoadsPieces sheet.now (lent board.old rates.old owed.old owed_other.old) list.old result (lent board.new rates.new owed.new owed_other.new) list.new }
 {
-    replies::of_checked(share_boards::opening::read_pieces(
-        sheet, board, list, rates, owed, owed_other,
-    ))
+    Reply::from(share_boards::opening::read_pieces(sheet, board, list, rates, owed, owed_other))
 }
 
 // Saves a board that holds no over-allocated stream by its pieces, where both drives are at one position.
@@ -200,7 +192,7 @@ pub fn mandrozsi_share_save_pieces(
 ) -> Reply
     ensures { promises.ShareSavesPieces own other (lent board.now rates.now owed.now owed_other.now) output.old result output.new }
 {
-    replies::of_share_saved(share_boards::starting::save_pieces(
+    Reply::from(share_boards::starting::save_pieces(
         own, other, board, rates, owed, owed_other, output,
     ))
 }

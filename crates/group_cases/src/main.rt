@@ -3,317 +3,223 @@
 // section III.
 #![tactic(auto)]
 
-ghost use Rattle.std.specs.Prelude.{IfOk, ◌≤◌, ◌+◌};
-
-use groups::{Imported, Importing};
+use groups::{Imported, Unimported};
 use std::io;
-use telling::reading::{read_numbers, read_text, text_room};
-use telling::stores::{least, wide_entry, with_entry, within, within_list};
-use telling::{end_line, say, say_after, say_entries, say_entry, say_list, say_record};
+use telling::reading::{Numbers, entry_of, read_text};
+use telling::stores::{part, with_entry, within};
+use telling::{Record, Spaced};
 
-// A word, and the first n entries.
-fn say_first(rt: &impl Print, word: &[u8], entries: &[u16], n: usize) -> io::Result<()> {
-    say(rt, word)?;
-    say_entries(rt, entries, 0, n)
+// How many numbers of the input are taken. What a text doesn't have is zeros.
+const NUMBERS: usize = 512;
+
+// The numbers of the answers to a capacity that is no power of two and to what is no group table, by the table of docs/CALLS.md; `groups` gives the kinds
+// alone.
+const POWER: u16 = 16;
+
+const GROUP: u16 = 18;
+
+// A table to be imported, and how much is lent of the board's store, the list's and the output's.
+#[derive(Clone, Copy)]
+struct Case<'a> {
+    capacity: u16,
+    board: u16,
+    list: u16,
+    output: u16,
+    starts: &'a [u16],
+    names: &'a [u16],
 }
 
-// The number that tells the first n entries.
-fn order(entries: &[u16], n: usize) -> u64 {
-    let end = least(n, entries.len());
-    let mut r: u64 = 0;
-    let mut i: usize = 0;
-    while i < end {
-        r = with_entry(r, entries[i]);
-        i += 1;
+impl<'a> Case<'a> {
+    // The case at the start of a table, and what follows it; none where the table ends within it.
+    fn parse(table: &'a [u16]) -> Option<(Case<'a>, &'a [u16])> {
+        let ([capacity, board, list, output], rest) = table.split_first_chunk::<4>()?;
+        let (starts, rest) = counted(rest)?;
+        let (names, rest) = counted(rest)?;
+        let case = Case {
+            capacity: *capacity,
+            board: *board,
+            list: *list,
+            output: *output,
+            starts,
+            names,
+        };
+        Some((case, rest))
     }
-    r
 }
 
-// Entry i becomes i + 1.
-fn count_up(entries: &mut [u16]) {
-    let mut i: usize = 0;
-    while i < entries.len() {
-        entries[i] = (i % 4096) as u16 + 1;
-        i += 1;
+// The entries at the start of a table that come after their count, and what follows them.
+fn counted(table: &[u16]) -> Option<(&[u16], &[u16])> {
+    let (n, rest) = table.split_first()?;
+    rest.split_at_checked(usize::from(*n))
+}
+
+// The stores of a board, of a list and of an output.
+#[derive(Drop)]
+struct Stores {
+    board: [u16; 2049],
+    list: [u64; 259],
+    output: [u16; 2049],
+}
+
+impl Stores {
+    // A board of nines, a list of twos and an output of sevens.
+    fn new() -> Stores {
+        Stores {
+            board: [9; 2049],
+            list: [2; 259],
+            output: [7; 2049],
+        }
+    }
+
+    // Says 17 entries of the board, the last ticket, the answers and the orders of the list, 17 entries of the output.
+    fn show(&self, rt: &impl Print) -> io::Result<()> {
+        let board = Spaced(part(&self.board, 0, 17));
+        let list = Spaced(part(&self.list, 0, 3));
+        let output = Spaced(part(&self.output, 0, 17));
+        println!(rt; ", board{board}, list{list}, output{output}")
     }
 }
 
-fn number_of(answer: Importing) -> u16 {
+fn number_of(answer: Result<(), Unimported>) -> u16 {
     match answer {
-        Importing::Clear => 0,
-        Importing::Power => 16,
-        Importing::Group => 18,
-        Importing::Refused(r) => r.number(),
+        Ok(()) => 0,
+        Err(Unimported::Power) => POWER,
+        Err(Unimported::Group) => GROUP,
+        Err(Unimported::Refused(why)) => why.number(),
     }
 }
 
 // What was asked for, and what was said: the answer's number and the record.
-fn say_imported(
+fn show_imported(
     rt: &impl Print,
-    c: u16,
+    capacity: u16,
     starts: &[u16],
     names: &[u16],
     r: Imported,
 ) -> io::Result<()> {
-    let drive = r.drive;
-    let answer = r.answer;
-    say_after(rt, b"import ", c as u64)?;
-    say_first(rt, b", starts", starts, 12)?;
-    say_first(rt, b", names", names, 6)?;
-    say(rt, b":")?;
-    say_entry(rt, number_of(answer))?;
-    say_record(rt, drive)
+    let first_starts = Spaced(part(starts, 0, 12));
+    let first_names = Spaced(part(names, 0, 6));
+    print!(rt;
+        "import {capacity}, starts{first_starts}, names{first_names}: {}",
+        number_of(r.answer)
+    )?;
+    print!(rt; " {}", Record(r.drive))
 }
 
-// What the stores hold: 17 entries of the board, the last ticket, the answers and the orders of the list, 17 entries of the output.
-fn say_stores(rt: &impl Print, board: &[u16], list: &[u64], output: &[u16]) -> io::Result<()> {
-    say_first(rt, b", board", board, 17)?;
-    say(rt, b", list")?;
-    say_list(rt, list, 0, 3)?;
-    say_first(rt, b", output", output, 17)?;
-    end_line(rt)
-}
-
-// The stores: a board of nines, a list of twos and an output of sevens.
-fn nines() -> [u16; 2049] {
-    [9u16; 2049]
-}
-
-fn twos() -> [u64; 259] {
-    [2u64; 259]
-}
-
-fn sevens() -> [u16; 2049] {
-    [7u16; 2049]
-}
-
-// How much is lent of the board's store, the list's and the output's.
-#[derive(Clone, Copy)]
-struct Lent {
-    board: usize,
-    list: usize,
-    output: usize,
-}
-
-// Imports a table, with so much lent.
-fn import(
-    c: u16,
-    starts: &[u16],
-    names: &[u16],
-    lent: Lent,
-    board: &mut [u16],
-    list: &mut [u64],
-    output: &mut [u16],
-) -> Imported {
-    let n = within(lent.board, board);
-    let m = within_list(lent.list, list);
-    let o = within(lent.output, output);
-    groups::import(
-        c,
+// Imports a case's table to stores of its own, and says what became of them.
+fn show_case(rt: &impl Print, case: Case<'_>) -> io::Result<()> {
+    let Case {
+        capacity,
         starts,
         names,
-        &mut board[..n],
-        &mut list[..m],
-        &mut output[..o],
-    )
+        ..
+    } = case;
+    let mut stores = Stores::new();
+    let n = within(usize::from(case.board), &stores.board);
+    let m = within(usize::from(case.list), &stores.list);
+    let o = within(usize::from(case.output), &stores.output);
+    let r = groups::import(
+        capacity,
+        starts,
+        names,
+        &mut stores.board[..n],
+        &mut stores.list[..m],
+        &mut stores.output[..o],
+    );
+    show_imported(rt, capacity, starts, names, r)?;
+    stores.show(rt)
 }
 
-// The same to stores of its own, told.
-fn show(rt: &impl Print, c: u16, starts: &[u16], names: &[u16], lent: Lent) -> io::Result<()> {
-    let mut board = nines();
-    let mut list = twos();
-    let mut output = sevens();
-    let r = import(c, starts, names, lent, &mut board, &mut list, &mut output);
-    say_imported(rt, c, starts, names, r)?;
-    say_stores(rt, &board, &list, &output)
-}
-
-// Entry i of a table.
-fn entry(table: &[u16], i: usize) -> u16 {
-    if i < table.len() {
-        return table[i];
-    }
-    0
-}
-
-fn count_in(table: &[u16], i: usize) -> usize
-    ensures { result ≤ 65535 }
-{
-    wide_entry(entry(table, i))
-}
-
-// The case that begins at an entry; where the next one begins. `Err` just where a write failed; the table is only read.
-fn show_case(rt: &impl Print, table: &[u16], at: usize) -> io::Result<usize>
-    requires { at ≤ 512 }
-    ensures { IfOk result (λ end. end ≤ at + 131076) }
-{
-    let lent = Lent {
-        board: count_in(table, at + 1),
-        list: count_in(table, at + 2),
-        output: count_in(table, at + 3),
+// The cases at the start of a table: how many there are, and then each. What follows them, which is nothing where the table ends within one.
+fn show_cases<'a>(rt: &impl Print, table: &'a [u16]) -> io::Result<&'a [u16]> {
+    let Some((n, mut rest)) = table.split_first() else {
+        return Ok(&[]);
     };
-    let from = at + 5;
-    let to = from + count_in(table, at + 4);
-    let first = to + 1;
-    let end = first + count_in(table, to);
-    if table.len() < end {
-        return Ok(end);
+    for _ in 0..*n {
+        let Some((case, after)) = Case::parse(rest) else {
+            return Ok(&[]);
+        };
+        show_case(rt, case)?;
+        rest = after;
     }
-    let c = entry(table, at);
-    show(rt, c, &table[from..to], &table[first..end], lent)?;
-    Ok(end)
-}
-
-// The cases: how many there are, and then each. Where they end; `Err` just where a write failed.
-fn show_cases(rt: &impl Print, table: &[u16]) -> io::Result<usize>
-    ensures { IfOk result (λ end. end ≤ 131588) }
-{
-    let n = count_in(table, 0);
-    let mut at: usize = 1;
-    let mut i: usize = 0;
-    while i < n {
-        at = show_case(rt, table, least(at, 512))?;
-        i += 1;
-    }
-    Ok(at)
+    Ok(rest)
 }
 
 // The number that tells the first 2,048 entries, and the entry beyond them.
-fn say_order(rt: &impl Print, word: &[u8], entries: &[u16]) -> io::Result<()> {
-    say_after(rt, word, order(entries, 2048))?;
-    say_entry(rt, entry(entries, 2048))
+fn show_order(rt: &impl Print, word: &str, entries: &[u16; 2049]) -> io::Result<()> {
+    let order = part(entries, 0, 2048)
+        .iter()
+        .fold(0, |order, x| with_entry(order, *x));
+    print!(rt; ", {word} {order} {}", entries[2048])
 }
 
 // A full table of 2,048 streams.
-fn show_full(
-    rt: &impl Print,
-    names: &[u16],
-    board: &mut [u16],
-    list: &mut [u64],
-    output: &mut [u16],
-) -> io::Result<()> {
-    let starts = [0u16, 0, 0, 0, 0, 0, 0, 0, 0, 0, 0, 2048];
-    let r = groups::import(2048, &starts, names, board, list, output);
-    say_imported(rt, 2048, &starts, names, r)?;
-    say_order(rt, b", board ", board)?;
-    say_order(rt, b", output ", output)?;
-    end_line(rt)
-}
-
-// A table of the names 1 to 5, with tables of over-allocated streams.
-fn show_shares(
-    rt: &impl Print,
-    starts: &[u16],
-    rates: &mut [u16],
-    owed: &mut [u16],
-    other: &mut [u16],
-    board: &mut [u16],
-    list: &mut [u64],
-    output: &mut [u16],
-) -> io::Result<()> {
-    let names = [1u16, 2, 3, 4, 5];
-    let r = groups::import_shares(16, starts, &names, board, rates, owed, other, list, output);
-    say_imported(rt, 16, starts, &names, r)?;
-    say_first(rt, b", rates", rates, 17)?;
-    say_first(rt, b", owed", owed, 17)?;
-    say_first(rt, b", other", other, 17)?;
-    say_stores(rt, board, list, output)
-}
-
-// The row that begins at an entry: how much is lent of each table, and five starts.
-fn show_row(
-    rt: &impl Print,
-    table: &[u16],
-    at: usize,
-    rates: &mut [u16],
-    owed: &mut [u16],
-    other: &mut [u16],
-    board: &mut [u16],
-    list: &mut [u64],
-    output: &mut [u16],
-) -> io::Result<()>
-    requires { at ≤ 1000000 }
-{
-    let l = within(count_in(table, at), rates);
-    let m = within(count_in(table, at + 1), owed);
-    let n = within(count_in(table, at + 2), other);
-    let from = at + 3;
-    let to = at + 8;
-    if table.len() < to {
-        return Ok(());
+fn show_full(rt: &impl Print, mut stores: Stores) -> io::Result<Stores> {
+    let starts = [0, 0, 0, 0, 0, 0, 0, 0, 0, 0, 0, 2048];
+    let mut names = [0; 2048];
+    for (entry, name) in names.iter_mut().zip(1..) {
+        *entry = name;
     }
-    show_shares(
-        rt,
-        &table[from..to],
-        &mut rates[..l],
-        &mut owed[..m],
-        &mut other[..n],
-        board,
-        list,
-        output,
-    )
+    let r = groups::import(
+        2048,
+        &starts,
+        &names,
+        &mut stores.board,
+        &mut stores.list,
+        &mut stores.output,
+    );
+    show_imported(rt, 2048, &starts, &names, r)?;
+    show_order(rt, "board", &stores.board)?;
+    show_order(rt, "output", &stores.output)?;
+    rt.println("")?;
+    Ok(stores)
 }
 
-fn threes() -> [u16; 17] {
-    [3u16; 17]
-}
-
-// The rows from an entry on: how many there are, and then each.
-fn show_rows(
-    rt: &impl Print,
-    table: &[u16],
-    at: usize,
-    board: &mut [u16],
-    list: &mut [u64],
-    output: &mut [u16],
-) -> io::Result<()>
-    requires { at ≤ 131588 }
-{
-    let mut rates = threes();
-    let mut owed = threes();
-    let mut other = threes();
-    let n = count_in(table, at);
-    let mut i: usize = 0;
-    while i < n {
-        show_row(
-            rt,
-            table,
-            at + 1 + 8 * i,
-            &mut rates,
-            &mut owed,
-            &mut other,
-            board,
-            list,
-            output,
-        )?;
-        i += 1;
+// The rows of a table: how many there are, and then each: how much is lent of each table of over-allocated streams, and five starts. The names are 1 to 5.
+fn show_rows(rt: &impl Print, table: &[u16], mut stores: Stores) -> io::Result<()> {
+    let Some((rows, rest)) = table.split_first() else {
+        return Ok(());
+    };
+    let names = [1, 2, 3, 4, 5];
+    let mut rates = [3; 17];
+    let mut owed = [3; 17];
+    let mut other = [3; 17];
+    for row in rest.chunks_exact(8).take(usize::from(*rows)) {
+        if let [l, m, n, starts @ ..] = row {
+            let l = within(usize::from(*l), &rates);
+            let m = within(usize::from(*m), &owed);
+            let n = within(usize::from(*n), &other);
+            let r = groups::import_shares(
+                16,
+                starts,
+                &names,
+                &mut stores.board,
+                &mut rates[..l],
+                &mut owed[..m],
+                &mut other[..n],
+                &mut stores.list,
+                &mut stores.output,
+            );
+            show_imported(rt, 16, starts, &names, r)?;
+            print!(rt;
+                ", rates{}, owed{}",
+                Spaced(&rates[..l]),
+                Spaced(&owed[..m])
+            )?;
+            print!(rt; ", other{}", Spaced(&other[..n]))?;
+            stores.show(rt)?;
+        }
     }
     Ok(())
 }
 
-fn no_table() -> [u16; 512] {
-    [0u16; 512]
-}
-
-fn no_names() -> [u16; 2048] {
-    [0u16; 2048]
-}
-
-fn run(rt: &impl Print, table: &[u16]) -> io::Result<()> {
-    let mut names = no_names();
-    let mut board = nines();
-    let mut list = twos();
-    let mut output = sevens();
-    let at = show_cases(rt, table)?;
-    count_up(&mut names);
-    show_full(rt, &names, &mut board, &mut list, &mut output)?;
-    show_rows(rt, table, at, &mut board, &mut list, &mut output)
-}
-
 fn main(rt: HostRuntime) -> io::Result<()> {
-    let mut text = text_room();
-    let n = read_text(&rt, &mut text)?;
-    let mut table = no_table();
-    read_numbers(&text[..n], &mut table);
-    run(&rt, &table)
+    let text = read_text(rt.alloc(), rt.reader())?;
+    let mut table = [0; NUMBERS];
+    for (entry, n) in table.iter_mut().zip(Numbers(&text)) {
+        *entry = entry_of(n);
+    }
+    let rest = show_cases(&rt, &table)?;
+    let stores = show_full(&rt, Stores::new())?;
+    show_rows(&rt, rest, stores)
 }

@@ -2,6 +2,7 @@
 mod Windows
 mod Lists
 mod Pointers
+mod AnyPart
 mod Faults
 mod Adding
 mod Checked

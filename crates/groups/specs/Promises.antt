@@ -1,9 +1,7 @@
 -- What an import promises, for every input: the result, the same in number and values, and what the board (E), the list (F) and the output (G) hold at exit.
 -- Assumes nothing.
-use Rattle.std.specs.Prelude.{◌≡◌, List, ℕ}
-use Rattle.groups.specs.declared.Importing.{Importing}
-use Rattle.groups.specs.declared.Importing.TheVariants.{Clear}
-use Rattle.groups.specs.declared.Imported.{Imported}
+use Rattle.std.specs.Prelude.{◌≡◌, List, ℕ, Ok}
+use Rattle.groups.specs.Types.{Importing, Imported}
 use Rattle.groups.specs.Results.{importing_answer, result_by, board_by, list_by, output_by, table_by, finds, finds_shares}
 
 -- By what the checks find.
@@ -13,7 +11,7 @@ ImportsBy f C S N B L O r E F G =
 
 -- What a caller that made other checks vouches for: where they find nothing, neither do those of an import.
 abbrev pub VouchesImport : Importing → ℕ → List ℕ → List ℕ → List ℕ → List ℕ → List ℕ → Type 0
-VouchesImport f C S N B L O = f ≡ Clear → finds C S N B L O ≡ Clear
+VouchesImport f C S N B L O = f ≡ Ok tt → finds C S N B L O ≡ Ok tt
 
 abbrev pub Imports : ℕ → List ℕ → List ℕ → List ℕ → List ℕ → List ℕ → Imported → List ℕ → List ℕ → List ℕ → Type 0
 Imports C S N B L O r E F G = ImportsBy (finds C S N B L O) C S N B L O r E F G

@@ -1,6 +1,6 @@
 -- What an import finds, answers and leaves of the board, the list, the output and the tables, for every input. The refusals 1, 2 and 11 are document
 -- 01's; 16 is request No. 8's, 18 request No. 11's. k is the place of the one set digit of C. Assumes nothing.
-use Rattle.std.specs.Prelude.{Bool, ◌||◌, cond, List, [], ◌∷◌, ◌++◌, ℕ, ltb, length, drop}
+use Rattle.std.specs.Prelude.{Bool, ◌||◌, cond, List, [], ◌∷◌, ◌++◌, ℕ, ltb, length, drop, Ok, Err}
 use Rattle.std.specs.Int.Count.{ones}
 use Rattle.pieces.specs.Fresh.{all_placed}
 use Rattle.calls.specs.Answers.{Answer}
@@ -11,9 +11,8 @@ use Rattle.calls.specs.declared.Refusal.TheVariants.{Capacity, Short, Output}
 use Rattle.tables.specs.Settling.{cleared_table}
 use Rattle.waiting.specs.Layout.{too_short, emptied}
 use Rattle.tree.specs.Marks.{levels}
-use Rattle.groups.specs.declared.Importing.{Importing}
-use Rattle.groups.specs.declared.Importing.TheVariants.{Clear, Power, Group, Refused}
-use Rattle.groups.specs.declared.Imported.{Imported}
+use Rattle.groups.specs.Types.{Importing, Imported}
+use Rattle.groups.specs.declared.Unimported.TheVariants as unimported
 use Rattle.groups.specs.Table.{faulty, table_streams}
 use Rattle.groups.specs.Rounds.{round_of}
 
@@ -29,11 +28,11 @@ shares_short C B n rates owed other = lent_short C B n || (ltb rates C || (ltb o
 unfoldable pub finding : ℕ → List ℕ → List ℕ → Bool → ℕ → Importing
 unfolding applies
 finding C S N short m =
-    cond (applies Capacity (asked_open C [])) (Refused Capacity)
-    (cond (ltb 1 (ones C)) Power
-    (cond short (Refused Short)
-    (cond (faulty (levels C) S N) Group
-    (cond (applies Output (asked_output (drive_at C 1) [] m C)) (Refused Output) Clear))))
+    cond (applies Capacity (asked_open C [])) (Err (unimported.Refused Capacity))
+    (cond (ltb 1 (ones C)) (Err unimported.Power)
+    (cond short (Err (unimported.Refused Short))
+    (cond (faulty (levels C) S N) (Err unimported.Group)
+    (cond (applies Output (asked_output (drive_at C 1) [] m C)) (Err (unimported.Refused Output)) (Ok tt)))))
 
 -- The numbers an import may answer beside 0, in their order.
 abbrev pub import_may : List ℕ
@@ -41,20 +40,20 @@ import_may = 1 ∷ 16 ∷ 2 ∷ 18 ∷ 11 ∷ []
 
 -- The number of every case of the answer. There are no values.
 abbrev pub number_by : Importing → ℕ
-number_by Clear = 0
-number_by Power = 16
-number_by Group = 18
-number_by (Refused r) = number_of r
+number_by (Ok tt) = 0
+number_by (Err unimported.Power) = 16
+number_by (Err unimported.Group) = 18
+number_by (Err (unimported.Refused r)) = number_of r
 
 abbrev pub importing_answer : Importing → Answer
 importing_answer f = record { number = number_by f; values = [] }
 
 -- What an import that is made gives, or what stands where it is refused.
 abbrev pub if_made {ℓ} : {A : Type ℓ} → Importing → A → A → A
-if_made Clear made was = made
-if_made Power made was = was
-if_made Group made was = was
-if_made (Refused r) made was = was
+if_made (Ok tt) made was = made
+if_made (Err unimported.Power) made was = was
+if_made (Err unimported.Group) made was = was
+if_made (Err (unimported.Refused r)) made was = was
 
 -- Made of a table S, N: the record is that of an opened board, at p = 1 and with the round number 0; the streams are added to an opened board in table order; the
 -- list is emptied; the output starts with the table's round; tables of over-allocated streams are cleared. Where it is refused the record is one of zeros, and

@@ -1,6 +1,6 @@
 -- The round of a group table by its own rule (source document 000, section III and figure 4): a counter of slots, the list whose range has the reversal of its
 -- digits, and in each list a pointer that goes round its streams. Assumes nothing.
-use Rattle.std.specs.Prelude.{◌≡◌, cond, List, [], ◌∷◌, ℕ, zero, suc, ◌+◌, ◌^◌, ◌<◌, ltb, length, get_or, set, replicate}
+use Rattle.std.specs.Prelude.{◌≡◌, cond, Option, Some, None, List, [], ◌∷◌, ℕ, zero, suc, ◌+◌, ◌^◌, ◌<◌, ltb, length, get_or, set, replicate}
 use Rattle.sequences.specs.Sequences.{rb}
 use Rattle.groups.specs.Table.{stream_count, offset}
 
@@ -8,6 +8,10 @@ use Rattle.groups.specs.Table.{stream_count, offset}
 unfoldable pub list_of : List ℕ → ℕ → ℕ → ℕ → ℕ
 list_of S zero i v = i
 list_of S (suc n) i v = let later = list_of S n (suc i) v in cond (ltb v (get_or S (suc i) 0)) i later
+
+-- That list, where it is not the idle one.
+abbrev pub list_found : ℕ → List ℕ → ℕ → Option ℕ
+list_found k S v = cond (ltb (list_of S k 0 v) k) (Some (list_of S k 0 v)) None
 
 -- A pointer into a list of c streams, moved to the next one.
 abbrev pub next_pointer : ℕ → ℕ → ℕ

@@ -1,31 +1,36 @@
 // Reads a neighbour's group table (request No. 11; source document 000, section III): its round by its own rule, and its streams as adds to an opened board.
+// The starts, the names and k stay parameters: `import` is lent both apart, as C lends them, and the checks read a table that may have a fault. One that has
+// none is a `GroupTable`. The tables of over-allocated streams, which `import_shares` clears, are lent apart by C too.
 #![tactic(auto)]
 
-ghost use Rattle.std.specs.Prelude.{◌≡◌, ◌||◌, ◌++◌, suc, ◌+◌, ◌*◌, ◌^◌, ◌<◌, ◌≤◌, eqb, ltb, length, get_or, replicate, drop};
-ghost use Rattle.sequences.specs.Sequences.{rb};
+ghost use Rattle.std.specs.Prelude.{◌≡◌, ◌++◌, suc, ◌+◌, ◌*◌, ◌^◌, ◌<◌, ◌≤◌, length, replicate, drop};
 ghost use Rattle.pieces.specs.Fresh as fresh;
-ghost use Rattle.groups.specs.declared.Importing.TheVariants.{Clear};
+ghost use Rattle.groups.specs.declared.Unimported.TheVariants.{Refused};
 ghost use Rattle.groups.specs.Table as table;
 ghost use Rattle.groups.specs.Rounds as rounds;
 ghost use Rattle.groups.specs.Results as results;
 ghost use Rattle.groups.specs.Promises as promises;
 
-use calls::{Drive, Refusal};
+use calls::{Drive, Refusal, Returned};
 
-// What the checks of an import find, and its answer, which has no value: the capacity is no power of two; the table has a fault; a refusal.
-#[derive(Clone, Copy)]
-pub enum Importing {
-    Clear,
+// Why a table was not imported: the capacity is no power of two; the table has a fault; a refusal.
+#[derive(Clone, Copy, Debug, PartialEq, Eq)]
+pub enum Unimported {
     Power,
     Group,
     Refused(Refusal),
 }
 
-#[derive(Clone, Copy)]
-pub struct Imported {
-    pub drive: Drive,
-    pub answer: Importing,
+impl From<Refusal> for Unimported {
+    ghost from_gives = { λ r u. u ≡ Refused r };
+
+    fn from(r: Refusal) -> Unimported {
+        Unimported::Refused(r)
+    }
 }
+
+// What an import gives back.
+pub type Imported = Returned<Result<(), Unimported>>;
 
 // ---- lists
 
@@ -50,11 +55,10 @@ fn offset_of(starts: &[u16], k: usize, i: usize) -> usize
     requires { (k ≤ 11) × (i ≤ k) × table.Rising k starts.now }
     ensures { (result ≡ table.offset k starts.now i) × (result ≤ i * 65536) }
 {
-    let mut n: usize = 0;
-    let mut j: usize = 0;
-    while j < i {
+    // By hand: `map(..).sum()` asks for a proof that each sum on the way fits, which the loop's invariant says in a line.
+    let mut n = 0;
+    for j in 0..i {
         n += streams_of(starts, k, j);
-        j += 1;
     }
     n
 }
@@ -68,13 +72,7 @@ fn bad_list(starts: &[u16], k: usize, i: usize) -> bool
 {
     let from = starts[i] as usize;
     let to = starts[i + 1] as usize;
-    if to < from {
-        return true;
-    }
-    if (to - from) % rate_of(k, i) == 0 {
-        return false;
-    }
-    true
+    to < from || (to - from) % rate_of(k, i) != 0
 }
 
 // Whether a list does.
@@ -82,29 +80,7 @@ fn bad_lists(starts: &[u16], k: usize) -> bool
     requires { (k ≤ 11) × (length starts.now ≡ suc k) }
     ensures { result ≡ table.any_from (table.bad_list k starts.now) 0 k }
 {
-    let mut i: usize = 0;
-    while i < k {
-        if bad_list(starts, k, i) {
-            return true;
-        }
-        i += 1;
-    }
-    false
-}
-
-// Whether x is one of the first n names.
-fn among(names: &[u16], x: u16, n: usize) -> bool
-    requires { (n ≤ length names.now) × (n ≤ 720896) }
-    ensures { result ≡ table.any_from (λ j. eqb (get_or names.now j 0) x) 0 n }
-{
-    let mut i: usize = 0;
-    while i < n {
-        if names[i] == x {
-            return true;
-        }
-        i += 1;
-    }
-    false
+    (0..k).any(|i| bad_list(starts, k, i))
 }
 
 // Whether the name at place i is 0, or stands at an earlier place too.
@@ -113,10 +89,7 @@ fn bad_name(names: &[u16], i: usize) -> bool
     ensures { result ≡ table.bad_name names.now i }
 {
     let x = names[i];
-    if x == 0 {
-        return true;
-    }
-    among(names, x, i)
+    x == 0 || names[..i].contains(&x)
 }
 
 // Whether a name does.
@@ -124,14 +97,7 @@ fn bad_names(names: &[u16]) -> bool
     requires { length names.now ≤ 720896 }
     ensures { result ≡ table.any_from (table.bad_name names.now) 0 (length names.now) }
 {
-    let mut i: usize = 0;
-    while i < names.len() {
-        if bad_name(names, i) {
-            return true;
-        }
-        i += 1;
-    }
-    false
+    (0..names.len()).any(|i| bad_name(names, i))
 }
 
 // The refusal 18, of a table for 2 ^ k slots.
@@ -139,113 +105,59 @@ fn faulty(starts: &[u16], names: &[u16], k: usize) -> bool
     requires { k ≤ 11 }
     ensures { result ≡ table.faulty k starts.now names.now }
 {
-    if starts.len() != k + 1 {
-        return true;
-    }
-    if starts[0] != 0 {
-        return true;
-    }
-    if bad_lists(starts, k) {
-        return true;
-    }
-    if (1usize << k) < starts[k] as usize {
-        return true;
-    }
-    if names.len() != offset_of(starts, k, k) {
-        return true;
-    }
-    bad_names(names)
+    starts.len() != k + 1
+        || starts[0] != 0
+        || bad_lists(starts, k)
+        || (1usize << k) < starts[k] as usize
+        || names.len() != offset_of(starts, k, k)
+        || bad_names(names)
 }
 
 // The refusal 2, for the board and the list.
+#[tactic(auto, unfolding(calls::specs::Refusals::applies))]
 fn short_lent(c: usize, board: &[u16], list: usize) -> bool
     ensures { result ≡ results.lent_short c board.now list }
 {
-    if board.len() < c {
-        return true;
-    }
-    list < waiting::LENGTH
-}
-
-// And for the tables of over-allocated streams.
-fn short_tables(c: usize, rates: usize, owed: usize, other: usize) -> bool
-    ensures { result ≡ (ltb rates c || (ltb owed c || ltb other c)) }
-{
-    if rates < c {
-        return true;
-    }
-    if owed < c {
-        return true;
-    }
-    other < c
-}
-
-// One of two refusals, or both.
-fn either(a: bool, b: bool) -> bool
-    ensures { result ≡ (a || b) }
-{
-    if a {
-        return true;
-    }
-    b
+    board.len() < c || list < waiting::LENGTH
 }
 
 // The refusals 1, 16, 2, 18 and 11, in this order.
-fn check(c: usize, starts: &[u16], names: &[u16], short: bool, output: usize) -> Importing
+#[tactic(auto, unfolding(crate::specs::Results::finding, tree::specs::Marks::levels))]
+fn check(
+    c: usize,
+    starts: &[u16],
+    names: &[u16],
+    short: bool,
+    output: usize,
+) -> Result<(), Unimported>
     ensures { result ≡ results.finding c starts.now names.now short output }
 {
-    if c == 0 {
-        return Importing::Refused(Refusal::Capacity);
+    if c == 0 || Drive::LARGEST < c {
+        return Err(Refusal::Capacity.into());
     }
-    if Drive::LARGEST < c {
-        return Importing::Refused(Refusal::Capacity);
-    }
-    if 1 < usize::count_ones(c) {
-        return Importing::Power;
+    if 1 < c.count_ones() {
+        return Err(Unimported::Power);
     }
     if short {
-        return Importing::Refused(Refusal::Short);
+        return Err(Refusal::Short.into());
     }
-    if faulty(starts, names, usize::trailing_zeros(c) as usize) {
-        return Importing::Group;
+    if faulty(starts, names, c.trailing_zeros() as usize) {
+        return Err(Unimported::Group);
     }
     if output < c {
-        return Importing::Refused(Refusal::Output);
+        return Err(Refusal::Output.into());
     }
-    Importing::Clear
+    Ok(())
 }
 
 // ---- the table's round
 
-// The k lowest binary digits of t, reversed.
-fn reverse(t: usize, k: usize) -> usize
-    requires { k ≤ 11 }
-    ensures { result ≡ rb t k }
+// The list whose range has v; none for the idle one.
+fn find(starts: &[u16], k: usize, v: usize) -> Option<usize>
+    requires { length starts.now ≡ suc k }
+    ensures { result ≡ rounds.list_found k starts.now v }
 {
-    let mut v: usize = 0;
-    let mut rest = t;
-    let mut left = k;
-    while 0 < left {
-        v = 2 * v + rest % 2;
-        rest = rest / 2;
-        left -= 1;
-    }
-    v
-}
-
-// The list whose range has v; k for the idle one.
-fn find(starts: &[u16], k: usize, v: usize) -> usize
-    requires { (k ≤ 11) × (length starts.now ≡ suc k) }
-    ensures { result ≡ rounds.list_of starts.now k 0 v }
-{
-    let mut i: usize = 0;
-    while i < k {
-        if v < starts[i + 1] as usize {
-            return i;
-        }
-        i += 1;
-    }
-    k
+    starts[1..].iter().position(|next| v < *next as usize)
 }
 
 // The pointer after p in a list of c streams.
@@ -256,82 +168,85 @@ fn next(c: usize, p: usize) -> usize
     if p + 1 < c { p + 1 } else { 0 }
 }
 
-// One slot that selects v: the name under the pointer of its list, which moves on.
-fn serve(starts: &[u16], names: &[u16], k: usize, pointers: &mut [u16], v: usize) -> u16
-    requires { (k ≤ 11) × table.Table k starts.now names.now × rounds.Pointing k starts.now pointers.old }
-    ensures { (result ≡ rounds.slot_name k starts.now names.now pointers.old v) × (pointers.new ≡ rounds.pointers_moved k starts.now pointers.old v) }
-{
-    let i = find(starts, k, v);
-    if i < k {
-        let p = pointers[i] as usize;
-        let at = offset_of(starts, k, i) + p;
-        pointers[i] = next(streams_of(starts, k, i), p) as u16;
-        return names[at];
-    }
-    0
-}
-
-// The round of the table, at the start of the output.
-fn write_slots(starts: &[u16], names: &[u16], k: usize, pointers: &mut [u16], output: &mut [u16])
-    requires { (k ≤ 11) × table.Table k starts.now names.now × (pointers.old ≡ replicate k 0) × (2 ^ k ≤ length output.old) }
-    ensures { output.new ≡ rounds.round_of k starts.now names.now ++ drop (2 ^ k) output.old }
-{
-    let c = 1usize << k;
-    let mut t: usize = 0;
-    while t < c {
-        output[t] = serve(starts, names, k, pointers, reverse(t, k));
-        t += 1;
-    }
-}
-
-// No pointer moved yet. The array is made here, so that no other proof computes it.
-fn no_pointers() -> [u16; 11]
-    ensures { result ≡ replicate 11 0 }
-{
-    [0u16; 11]
-}
-
-// The round of a table without a fault, at the start of the output.
-fn write_round(starts: &[u16], names: &[u16], k: usize, output: &mut [u16])
-    requires { (k ≤ 11) × table.Table k starts.now names.now × (2 ^ k ≤ length output.old) }
-    ensures { output.new ≡ rounds.round_of k starts.now names.now ++ drop (2 ^ k) output.old }
-{
-    let mut pointers = no_pointers();
-    write_slots(starts, names, k, &mut pointers[0..k], output);
-}
-
-// ---- the import
-
-// Admits n streams of the weight w, by their names from a place on.
+// Admits n streams of the weight w, by their names from a place on. There is room for each.
 fn admit_list(board: &mut [u16], c: usize, names: &[u16], from: usize, n: usize, w: usize)
     requires { (from + n ≤ length names.now) × (from + n ≤ 4096) × fresh.Placeables c board.old (table.streams_at names.now w from n) }
     ensures { board.new ≡ fresh.all_placed c board.old (table.streams_at names.now w from n) }
 {
-    let mut j: usize = 0;
-    while j < n {
-        pieces::admit(board, c, names[from + j], w);
-        j += 1;
+    for name in &names[from..from + n] {
+        let _ = pieces::admit(board, c, *name, w);
     }
 }
 
-// Admits the streams of a table without a fault, in table order. There is room for each of them.
-fn admit_all(board: &mut [u16], c: usize, starts: &[u16], names: &[u16], k: usize)
-    requires { (k ≤ 11) × table.Table k starts.now names.now × fresh.Placeables c board.old (table.table_streams k starts.now names.now) }
-    ensures { board.new ≡ fresh.all_placed c board.old (table.table_streams k starts.now names.now) }
-{
-    let mut from: usize = 0;
-    let mut i: usize = 0;
-    while i < k {
-        let n = streams_of(starts, k, i);
-        admit_list(board, c, names, from, n, rate_of(k, i));
-        from += n;
-        i += 1;
+// ---- a table without a fault
+
+// A table without a fault, for 2 ^ k slots.
+#[derive(Clone, Copy)]
+struct GroupTable<'a> {
+    starts: &'a [u16],
+    names: &'a [u16],
+    k: usize,
+    ghost few: { k ≤ 11 },
+    ghost sound: { table.Table k starts.now names.now },
+}
+
+impl GroupTable<'_> {
+    // One slot that selects v: the name under the pointer of its list, which moves on.
+    fn serve(&self, pointers: &mut [u16], v: usize) -> u16
+        requires { rounds.Pointing self.now.k self.now.starts.now pointers.old }
+        ensures { (result ≡ rounds.slot_name self.now.k self.now.starts.now self.now.names.now pointers.old v) × (pointers.new ≡ rounds.pointers_moved self.now.k self.now.starts.now pointers.old v) }
+    {
+        match find(self.starts, self.k, v) {
+            None => 0,
+            Some(i) => {
+                let p = pointers[i] as usize;
+                let at = offset_of(self.starts, self.k, i) + p;
+                pointers[i] = next(streams_of(self.starts, self.k, i), p) as u16;
+                self.names[at]
+            }
+        }
+    }
+
+    // Writes the round to the start of the output, from pointers that each stand at the head of their list.
+    fn write_slots(&self, pointers: &mut [u16], output: &mut [u16])
+        requires { (pointers.old ≡ replicate self.now.k 0) × (2 ^ self.now.k ≤ length output.old) }
+        ensures { output.new ≡ rounds.round_of self.now.k self.now.starts.now self.now.names.now ++ drop (2 ^ self.now.k) output.old }
+    {
+        let c = 1usize << self.k;
+        for t in 0..c {
+            output[t] = self.serve(pointers, sequences::reversed(t, self.k));
+        }
+    }
+
+    // Writes the round to the start of the output. Every pointer begins at the head of its list.
+    fn write_round(&self, output: &mut [u16])
+        requires { 2 ^ self.now.k ≤ length output.old }
+        ensures { output.new ≡ rounds.round_of self.now.k self.now.starts.now self.now.names.now ++ drop (2 ^ self.now.k) output.old }
+    {
+        // No pointer has moved yet.
+        let mut pointers = names::zeros::<11>();
+        self.write_slots(&mut pointers[0..self.k], output);
+    }
+
+    // Admits the streams, in table order. There is room for each of them.
+    fn admit_all(&self, board: &mut [u16], c: usize)
+        requires { fresh.Placeables c board.old (table.table_streams self.now.k self.now.starts.now self.now.names.now) }
+        ensures { board.new ≡ fresh.all_placed c board.old (table.table_streams self.now.k self.now.starts.now self.now.names.now) }
+    {
+        let mut from = 0;
+        for i in 0..self.k {
+            let n = streams_of(self.starts, self.k, i);
+            admit_list(board, c, self.names, from, n, rate_of(self.k, i));
+            from += n;
+        }
     }
 }
+
+// ---- the import
 
 // Imports a table by what the checks found: writes its round to the output, empties the list, opens the board, and admits the table's streams.
 fn import_by(
-    found: Importing,
+    found: Result<(), Unimported>,
     capacity: u16,
     starts: &[u16],
     names: &[u16],
@@ -342,30 +257,23 @@ fn import_by(
     requires { promises.VouchesImport found capacity starts.now names.now board.old list.old output.old }
     ensures { promises.ImportsBy found capacity starts.now names.now board.old list.old output.old result board.new list.new output.new }
 {
+    // A match, since `?` would give the refusal alone, and a record comes with it.
     match found {
-        Importing::Refused(r) => Imported {
+        Err(e) => Returned {
             drive: Drive::new(0, 0),
-            answer: Importing::Refused(r),
+            answer: Err(e),
         },
-        Importing::Power => Imported {
-            drive: Drive::new(0, 0),
-            answer: Importing::Power,
-        },
-        Importing::Group => Imported {
-            drive: Drive::new(0, 0),
-            answer: Importing::Group,
-        },
-        Importing::Clear => {
+        Ok(()) => {
             let c = capacity as usize;
-            let k = usize::trailing_zeros(c) as usize;
-            write_round(starts, names, k, output);
+            let k = c.trailing_zeros() as usize;
+            let table = GroupTable { starts, names, k };
+            table.write_round(output);
             waiting::empty(list);
             let opened = Drive::open(capacity, board);
-            admit_all(board, c, starts, names, k);
-            let drive = opened.drive;
-            Imported {
-                drive,
-                answer: Importing::Clear,
+            table.admit_all(board, c);
+            Returned {
+                drive: opened.drive,
+                answer: Ok(()),
             }
         }
     }
@@ -388,21 +296,6 @@ pub fn import(
     import_by(found, capacity, starts, names, board, list, output)
 }
 
-// Clears a table of over-allocated streams where the checks found nothing.
-fn clear_by(found: Importing, table: &mut [u16], c: usize)
-    requires { found ≡ Clear → (c ≤ length table.old) × (c ≤ 4095) }
-    ensures { table.new ≡ results.table_by found c table.old }
-{
-    match found {
-        Importing::Refused(r) => {}
-        Importing::Power => {}
-        Importing::Group => {}
-        Importing::Clear => {
-            tables::clear_table(table, c);
-        }
-    }
-}
-
 // Imports a table, where tables of over-allocated streams are lent as well: none of its streams is one, and the tables are cleared.
 pub fn import_shares(
     capacity: u16,
@@ -418,11 +311,15 @@ pub fn import_shares(
     ensures { promises.ImportsShares capacity starts.now names.now board.old rates.old owed.old other.old list.old output.old result board.new rates.new owed.new other.new list.new output.new }
 {
     let c = capacity as usize;
-    let tables = short_tables(c, rates.len(), owed.len(), other.len());
-    let short = either(short_lent(c, board, list.len()), tables);
+    let short = short_lent(c, board, list.len())
+        || rates.len() < c
+        || owed.len() < c
+        || other.len() < c;
     let found = check(c, starts, names, short, output.len());
-    clear_by(found, rates, c);
-    clear_by(found, owed, c);
-    clear_by(found, other, c);
+    if found.is_ok() {
+        tables::clear_table(rates, c);
+        tables::clear_table(owed, c);
+        tables::clear_table(other, c);
+    }
     import_by(found, capacity, starts, names, board, list, output)
 }

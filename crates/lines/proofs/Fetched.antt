@@ -7,10 +7,9 @@ use lib.Dec.{eqb}
 use Rattle.general.proofs.Laws.{by_bool}
 use Rattle.calls.specs.declared.Drive.{Drive}
 use Rattle.calls.specs.declared.Refusal.{Refusal}
-use Rattle.calls.specs.declared.Check.{Check}
-use Rattle.calls.specs.declared.Check.TheVariants.{Clear, Refused}
-use Rattle.calls.specs.declared.Change.{Change}
-use Rattle.calls.specs.declared.Change.TheVariants as change
+use Rattle.calls.specs.Types.{Check, Change}
+use Rattle.std.specs.Prelude.{Ok, Err}
+use Rattle.calls.specs.declared.Unchanged.TheVariants as unchanged
 use Rattle.calls.specs.Refusals.{number_of, zero_or, numbers, remove_may, asked_name, add_check, remove_check}
 use Rattle.calls.specs.Results.{admitted_by, change_by, added_idle, added, removed_idle, removed}
 use Rattle.calls.proofs.Laws.{number_some, Within, first_within, other_number}
@@ -24,13 +23,13 @@ abbrev Alike : Change → Type 0
 Alike k = outcome_line (outcome_of k).number (outcome_of k).value ≡ ordering_line (made k)
 
 -- the number of a refusal is not 0, and if it is not 10, the refusal stands alone
-refused_alike : (r : Refusal) → eqb (number_of r) 10 ≡ false → Alike (change.Refused r)
+refused_alike : (r : Refusal) → eqb (number_of r) 10 ≡ false → Alike (Err (unchanged.Refused r))
 refused_alike r f = rw (number_some r, f) refl
 
 -- an add tells ROOM with the idle leaves
 by_check : (k : Check) (left idle : ℕ) → Alike (admitted_by k left idle)
-by_check Clear left idle = refl
-by_check (Refused r) left idle = by_bool (eqb (number_of r) 10) (λ t. rw t refl) (λ f. rw f (refused_alike r f))
+by_check (Ok tt) left idle = refl
+by_check (Err r) left idle = by_bool (eqb (number_of r) 10) (λ t. rw t refl) (λ f. rw f (refused_alike r f))
 
 add_alike : (d : Drive) (B : List ℕ) (x w : ℕ) → Alike (added d B x w).answer
 add_alike d B x w = by_check (add_check d B x w) (added_idle d B x w) _
@@ -38,8 +37,8 @@ add_alike d B x w = by_check (add_check d B x w) (added_idle d B x w) _
 -- and a remove never tells it
 by_other : (k : Check) (idle : ℕ) → Within (numbers remove_may) k → Alike (change_by k idle)
 unfolding zero_or
-by_other Clear idle e = refl
-by_other (Refused r) idle e = refused_alike r (other_number (numbers remove_may) (number_of r) 10 e refl)
+by_other (Ok tt) idle e = refl
+by_other (Err r) idle e = refused_alike r (other_number (numbers remove_may) (number_of r) 10 e refl)
 
 remove_alike : (d : Drive) (B : List ℕ) (x : ℕ) → Alike (removed d B x).answer
 unfolding remove_check

@@ -6,7 +6,7 @@ use Prim.Native.Nat.{ℕ, ◌+◌, min, ◌≤◌, ◌<◌}
 use native.Mathlib.Omega.{arith}
 use native.Mathlib.Numerals.{add-one}
 use native.Mathlib.Decide.{dec_lt}
-use lib.Dec.{eqb, ltb}
+use lib.Dec.{eqb}
 use lib.ListN.{length, take, length-append, length-set}
 use lib.Seq.{take_all, take-append-le, take-suc-set}
 use borrow.Author.Tests.{lt-ltb, le-ltb, eq-eqb, ne_eqb}
@@ -22,27 +22,27 @@ use Rattle.lines.proofs.Lengths.{parsed_kept}
 
 -- the session keeps the start of the line w
 record Keeps (s : Session) (w : List ℕ) : Type 0 where
-  full : length s.start ≡ kept_bytes
-  count : s.count ≡ min kept_bytes (length w)
+  full : length s.line.bytes ≡ kept_bytes
+  count : s.line.count ≡ min kept_bytes (length w)
   start : line_of s ≡ take kept_bytes w
 
-keeps_none : (s : Session) → length s.start ≡ kept_bytes → s.count ≡ 0 → Keeps s []
+keeps_none : (s : Session) → length s.line.bytes ≡ kept_bytes → s.line.count ≡ 0 → Keeps s []
 keeps_none s full none = record { full = full; count = none; start = rw none refl }
 
 -- one byte more
 keeps_more : (s : Session) (w : List ℕ) (b : ℕ) → Keeps s w → Keeps (kept s b) (w ++ (b ∷ []))
 keeps_more s w b k =
-    elim (dec_lt s.count kept_bytes) [
+    elim (dec_lt s.line.count kept_bytes) [
       | yes l ↦ (let short : length w < kept_bytes = omega (arith, k.count) in
-          rw (lt-ltb s.count kept_bytes l)
+          rw (lt-ltb s.line.count kept_bytes l)
           (record {
             full = rw length-set k.full;
             count = rw length-append (omega (arith, k.count));
             start =
-                rw (add-one, take-suc-set s.start s.count b (omega (arith, k.full)), k.start, take_all kept_bytes w (omega arith), take_all kept_bytes (w ++ (b ∷ [])) (rw length-append (omega arith))) refl;
+                rw (add-one, take-suc-set s.line.bytes s.line.count b (omega (arith, k.full)), k.start, take_all kept_bytes w (omega arith), take_all kept_bytes (w ++ (b ∷ [])) (rw length-append (omega arith))) refl;
           }))
       | no l ↦ (let long : kept_bytes ≤ length w = omega (arith, k.count) in
-          rw (le-ltb s.count kept_bytes (omega arith))
+          rw (le-ltb s.line.count kept_bytes (omega arith))
           (record {
             full = k.full;
             count = rw length-append (omega (arith, k.count));
@@ -58,8 +58,8 @@ keeps_parsed s w k = rw k.start (parsed_kept w)
 keeps_last : (s : Session) (w : List ℕ) → Keeps s w → last_of s ≡ cond (eqb (length w) 0) [] (10 ∷ [])
 keeps_last s w k =
     elim (dec_lt 0 (length w)) [
-      | yes l ↦ rw (ne_eqb s.count 0 (λ e. omega (arith, k.count)), ne_eqb (length w) 0 (λ e. omega arith)) refl
-      | no l ↦ rw (eq-eqb s.count 0 (omega (arith, k.count)), eq-eqb (length w) 0 (omega arith)) refl
+      | yes l ↦ rw (ne_eqb s.line.count 0 (λ e. omega (arith, k.count)), ne_eqb (length w) 0 (λ e. omega arith)) refl
+      | no l ↦ rw (eq-eqb s.line.count 0 (omega (arith, k.count)), eq-eqb (length w) 0 (omega arith)) refl
     ]
 
 -- the end of a line, and any other byte
@@ -89,7 +89,7 @@ unfolding heard_out heard_all
 out_more t b s = refl
 
 kept_drive : (s : Session) (b : ℕ) → (kept s b).drive ≡ s.drive
-kept_drive s b = by_bool (ltb s.count kept_bytes) (λ e. rw e refl) (λ e. rw e refl)
+kept_drive s b = refl
 
 -- the end of the input
 at_end : (t : Talk) (w : List ℕ) → Keeps t.session w → (heard_out t []).said ≡ t.said ++ line_answers t.session.drive t.board t.list (lines_after w [])

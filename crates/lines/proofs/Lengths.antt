@@ -8,14 +8,13 @@ use native.Mathlib.Decide.{dec_lt}
 use lib.Dec.{eqb}
 use lib.ListN.{length, take}
 use lib.Seq.{take_all, length-take-le}
+use Rattle.std.specs.Prelude.{None}
 use Rattle.general.specs.Tests.{same}
 use Rattle.general.proofs.Laws.{by_bool, same_short}
 use Rattle.lines.specs.Grammar.{parted, words, most_digits, short_number, ticket_digits, open_word, add_word, remove_word, slot_word, round_word, fetch_word, longest, lone_word, with_one, with_two, command, parsed}
 use Rattle.lines.specs.Sessions.{kept_bytes}
-use Rattle.lines.specs.declared.Command.TheVariants.{Unknown}
-use Rattle.lines.specs.declared.reading.Numeral.{Numeral}
-use Rattle.lines.specs.declared.reading.Numeral.TheVariants.{Value, Nothing}
 use Rattle.lines.proofs.Spelling.{numeral_long}
+use Rattle.lines.proofs.Words.{one_other, two_none, two_other}
 
 -- how many bytes words have, with a space between each two
 total : List (List ℕ) → ℕ
@@ -46,28 +45,11 @@ words_total [] = refl
 words_total (b ∷ s) =
     first s (λ ws. total (parted (eqb b 32) b ws) ≡ suc (total ws)) (λ w ws. total_parted (eqb b 32) b w ws) ∙ ap suc (words_total s)
 
-module _ (w : List ℕ) where
-  lone_word_long : 5 < length w → lone_word w ≡ Unknown
-  unfolding lone_word
-  lone_word_long h = rw (same_short w slot_word (λ e. omega arith), same_short w round_word (λ e. omega arith)) refl
+lone_word_long : (w : List ℕ) → 5 < length w → lone_word w ≡ None
+unfolding lone_word
+lone_word_long w h = rw (same_short w slot_word (λ e. omega arith), same_short w round_word (λ e. omega arith)) refl
 
-  one_long : (n : Numeral) → 6 < length w → with_one w n ≡ Unknown
-  unfolding with_one
-  one_long Nothing h = refl
-  one_long (Value x) h = rw (same_short w open_word (λ e. omega arith), same_short w remove_word (λ e. omega arith)) refl
-
-  two_none : (n : Numeral) → with_two w n Nothing ≡ Unknown
-  unfolding with_two
-  two_none Nothing = refl
-  two_none (Value x) = refl
-
-  two_long : (n m : Numeral) → 3 < length w → with_two w n m ≡ Unknown
-  unfolding with_two
-  two_long Nothing m h = refl
-  two_long (Value x) Nothing h = refl
-  two_long (Value x) (Value y) h = rw (same_short w add_word (λ e. omega arith)) refl
-
-command_long : (ws : List (List ℕ)) → longest < total ws → command ws ≡ Unknown
+command_long : (ws : List (List ℕ)) → longest < total ws → command ws ≡ None
 unfolding total command with_one with_two
 command_long [] h = refl
 command_long (w ∷ []) h = lone_word_long w (omega arith)
@@ -77,7 +59,7 @@ command_long (w ∷ x ∷ []) h =
           (by_bool (same w fetch_word) (λ t. rw t refl) (λ f. rw f refl))
       | no l ↦ rw (same_short w fetch_word (λ e. omega arith)) (elim (dec_lt most_digits (length x)) [
         | yes m ↦ rw (numeral_long most_digits 65535 x m) refl
-        | no m ↦ one_long w (short_number x) (omega arith)
+        | no m ↦ one_other w (short_number x) (same_short w open_word (λ e. omega arith)) (same_short w remove_word (λ e. omega arith))
       ])
     ]
 command_long (w ∷ x ∷ y ∷ []) h =
@@ -85,13 +67,13 @@ command_long (w ∷ x ∷ y ∷ []) h =
       | yes l ↦ rw (numeral_long most_digits 65535 x l) refl
       | no l ↦ elim (dec_lt most_digits (length y)) [
         | yes m ↦ rw (numeral_long most_digits 65535 y m) (two_none w (short_number x))
-        | no m ↦ two_long w (short_number x) (short_number y) (omega arith)
+        | no m ↦ two_other w (short_number x) (short_number y) (same_short w add_word (λ e. omega arith))
       ]
     ]
 command_long (w ∷ x ∷ y ∷ z ∷ ws) h = refl
 
 -- a line that is longer than the longest command is not understood
-pub parsed_long : (s : List ℕ) → longest < length s → parsed s ≡ Unknown
+pub parsed_long : (s : List ℕ) → longest < length s → parsed s ≡ None
 unfolding parsed
 parsed_long s h = command_long (words s) (rw (words_total s) h)
 

@@ -1,12 +1,10 @@
 -- What upper crates cite is Laws. The rest is inner.
 mod Words
 mod Spelling
-mod Commands
 mod Lengths
 mod Decimals
 mod Written
 mod RoundNames
-mod LineStarts
 mod Talks
 mod Inputs
 mod Parts

@@ -9,28 +9,27 @@ use lib.ListN.{length, take, drop, length-append, length-drop}
 use lib.Seq.{take_at}
 use borrow.Author.Tests.{ltb-false}
 use Rattle.calls.specs.declared.Drive.{Drive}
-use Rattle.calls.specs.declared.Check.{Check}
-use Rattle.calls.specs.declared.Check.TheVariants.{Clear}
-use Rattle.calls.specs.declared.Checked.{Checked}
+use Rattle.calls.specs.Types.{Check, Checked}
+use Rattle.std.specs.Prelude.{Ok}
 use Rattle.calls.specs.declared.Refusal.TheVariants.{Capacity}
 use Rattle.calls.specs.Refusals.{refuse_if, first_of, applies, round_check}
 use Rattle.calls.specs.Results.{round_names, rounded, rounded_output}
 use Rattle.general.specs.Lists.{blank}
 use Rattle.general.proofs.Laws.{blank_length}
 
-within : (a b : Bool) (others : Check) → refuse_if (a || b) Capacity others ≡ Clear → b ≡ false
+within : (a b : Bool) (others : Check) → refuse_if (a || b) Capacity others ≡ Ok tt → b ≡ false
 within true b others e = let z : ◌≡◌ {A = ℕ} 0 1 = cc in absurd (omega arith)
 within false true others e = let z : ◌≡◌ {A = ℕ} 0 1 = cc in absurd (omega arith)
 within false false others e = refl
 
 -- no round is done of more than 4,095 slots
-clear_fits : (d : Drive) (B : List ℕ) (n : ℕ) → round_check d B n ≡ Clear → d.capacity ≤ 4095
+clear_fits : (d : Drive) (B : List ℕ) (n : ℕ) → round_check d B n ≡ Ok tt → d.capacity ≤ 4095
 unfolding round_check first_of applies
 clear_fits d B n e = ltb-false 4095 d.capacity (within (eqb d.capacity 0) (ltb 4095 d.capacity) _ e)
 
 -- what is known after a round into blank room for 4,095 names, and more where it is done
 pub record Named (d : Drive) (B O' : List ℕ) : Type 0 where
-  pub done : round_check d B 4095 ≡ Clear
+  pub done : round_check d B 4095 ≡ Ok tt
   pub fit : d.capacity ≤ 4095
   pub within : d.capacity ≤ length O'
   pub names : take d.capacity O' ≡ round_names d.capacity B
@@ -42,8 +41,8 @@ module _ (d : Drive) (B O O' : List ℕ) (R : Checked) (o : O ≡ blank 4095) (r
   pub answer_is : R.answer ≡ round_check d B 4095
   answer_is = rw (r, room_length) refl
 
-  module _ (w : O' ≡ rounded_output d B O) (kept : length O' ≡ length O) (done : R.answer ≡ Clear) where
-    clear : round_check d B 4095 ≡ Clear
+  module _ (w : O' ≡ rounded_output d B O) (kept : length O' ≡ length O) (done : R.answer ≡ Ok tt) where
+    clear : round_check d B 4095 ≡ Ok tt
     clear = sym answer_is ∙ done
 
     written : O' ≡ round_names d.capacity B ++ drop d.capacity O

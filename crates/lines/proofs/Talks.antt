@@ -1,16 +1,16 @@
 -- A talk byte by byte, as a loop over the input goes. Assumes nothing.
 use mathlib.Core.Path.{◌≡◌, refl, sym, ap, ◌∙◌}
 use mathlib.Core.List.{List, ◌∷◌, ◌++◌}
-use Prim.Native.Nat.{ℕ, suc, ◌+◌, ◌≤◌, ◌<◌}
+use Prim.Native.Nat.{ℕ, suc, ◌+◌, ◌-◌, ◌≤◌, ◌<◌}
 use native.Mathlib.Omega.{arith}
 use native.Mathlib.Numerals.{add-one}
 use lib.ListN.{length, get_or, take, drop, length-append, drop_of_length-le}
-use lib.Seq.{sets, sets-eq, take_at, drop-cons, length-take-le}
+use lib.Seq.{sets, sets-eq, length-sets, take_at, drop-cons, length-take-le}
 use borrow.Author.Tests.{le-leb, lt-leb}
 use Rattle.lines.specs.Sessions.{Talk, heard, talked, session_after, said_after, board_heard, list_heard, Hears, begun, Answered}
 use Rattle.lines.specs.declared.hearing.Session.{Session}
-use Rattle.lines.specs.declared.hearing.Heard.{Heard}
 use Rattle.general.proofs.Laws.{sets_append}
+use Rattle.lines.proofs.Decimals.{sets_part}
 
 talk_more : (n : ℕ) (t : Talk) (b : ℕ) (s : List ℕ) → length t.said + 24573 ≤ n → talked n t (b ∷ s) ≡ talked n (heard t b) s
 unfolding talked
@@ -38,23 +38,30 @@ module _ (I : List ℕ) (i : ℕ) (h : i < length I) (s : Session) (B L O : List
   pub talk_stops : (n : ℕ) → n < to + 24573 → talked n (talk_at s B L O to i) (drop i I) ≡ talk_at s B L O to i
   talk_stops n full = rw (drop-cons I i 0 h) (talk_full n (talk_at s B L O to i) (get_or I i 0) (drop (suc i) I) (rw (length-take-le to O within) full))
 
-  module _ (R : Heard) (B'' L' O' : List ℕ) (fits : to + 24573 ≤ length O)
-      (p : Hears (session_after s B L (get_or I i 0)) (board_heard s B L (get_or I i 0)) (list_heard s B L (get_or I i 0)) (said_after s B L (get_or I i 0)) O to R B'' L' O') where
-    ends : R.to ≡ to + length (said_after s B L (get_or I i 0))
-    ends = ap (λ (r : Heard). r.to) p.handed
+  -- a byte is heard, and what is said of it is written to what lies after `to`
+  module _ (s' : Session) (n : ℕ) (B'' L' O' : List ℕ) (fits : to + 24573 ≤ length O)
+      (p : Hears (session_after s B L (get_or I i 0)) (board_heard s B L (get_or I i 0)) (list_heard s B L (get_or I i 0)) (said_after s B L (get_or I i 0)) (take (length O - to) (drop to O)) s' n B'' L' O') where
+    abbrev pub O'' : List ℕ
+    O'' = take to O ++ (O' ++ drop (length O - to) (drop to O))
 
-    said_now : take R.to O' ≡ take to O ++ said_after s B L (get_or I i 0)
-    said_now = rw (p.bytes, ends) (take_sets O (said_after s B L (get_or I i 0)) to (omega (arith, ends, p.within)))
+    written : O'' ≡ sets O to (said_after s B L (get_or I i 0))
+    written = rw p.written.bytes (sets_part O (said_after s B L (get_or I i 0)) to (length O - to) refl (omega (arith, p.written.to, p.written.within)))
 
-    pub talk_goes : (n : ℕ) → n ≡ length O → talked n (talk_at s B L O to i) (drop i I) ≡ talked n (talk_at R.session B'' L' O' R.to (i + 1)) (drop (i + 1) I)
-    talk_goes n e = rw (drop-cons I i 0 h, said_now, p.handed, p.leaves, p.waits, add-one i)
-        (rw (add-one i) at (talk_more n (talk_at s B L O to i) (get_or I i 0) (drop (suc i) I) (rw (length-take-le to O within) (omega arith))))
+    said_now : take (to + n) O'' ≡ take to O ++ said_after s B L (get_or I i 0)
+    said_now = rw (written, p.written.to) (take_sets O (said_after s B L (get_or I i 0)) to (omega (arith, p.written.to, p.written.within)))
 
-    pub bytes_go : (O₀ : List ℕ) → O ≡ sets O₀ 0 (take to O) → O' ≡ sets O₀ 0 (take R.to O')
+    pub talk_goes : (m : ℕ) → m ≡ length O → talked m (talk_at s B L O to i) (drop i I) ≡ talked m (talk_at s' B'' L' O'' (to + n) (i + 1)) (drop (i + 1) I)
+    talk_goes m e = rw (drop-cons I i 0 h, said_now, p.session, p.leaves, p.waits, add-one i)
+        (rw (add-one i) at (talk_more m (talk_at s B L O to i) (get_or I i 0) (drop (suc i) I) (rw (length-take-le to O within) (omega arith))))
+
+    pub bytes_go : (O₀ : List ℕ) → O ≡ sets O₀ 0 (take to O) → O'' ≡ sets O₀ 0 (take (to + n) O'')
     bytes_go O₀ e =
         let v = said_after s B L (get_or I i 0) in
         let z : 0 + length (take to O) ≡ to = rw (length-take-le to O within) (omega arith) in
-        rw said_now (p.bytes ∙ ap (λ (x : List ℕ). sets x to v) e ∙ (rw z at (sets_append O₀ 0 (take to O) v)))
+        rw said_now (written ∙ ap (λ (x : List ℕ). sets x to v) e ∙ (rw z at (sets_append O₀ 0 (take to O) v)))
+
+    pub length_goes : length O'' ≡ length O
+    length_goes = rw (written, length-sets) refl
 
 -- what is handed back when the loop is left
 module _ (s₀ : Session) (I B₀ L₀ O₀ : List ℕ) (s : Session) (B L O : List ℕ) (to i : ℕ) where

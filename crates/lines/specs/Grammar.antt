@@ -1,16 +1,9 @@
 -- The language of the console's input: document 01, "Console", and document 02, No. 2, for `fetch`. A line is the list of its bytes, without the line feed.
 -- Assumes nothing.
-use Rattle.std.specs.Prelude.{Bool, true, false, cond, ◌&&◌, List, [], ◌∷◌, ℕ, suc, ◌+◌, ◌-◌, ◌*◌, max, leb, eqb, length}
+use Rattle.std.specs.Prelude.{Bool, true, false, cond, ◌&&◌, List, [], ◌∷◌, ℕ, ◌+◌, ◌-◌, ◌*◌, max, leb, eqb, length, Option, Some, None}
 use Rattle.general.specs.Tests.{same}
 use Rattle.lines.specs.declared.Command.{Command}
-use Rattle.lines.specs.declared.Command.TheVariants.{Open, Add, Remove, Slot, Round, Fetch, Unknown}
-use Rattle.lines.specs.declared.reading.Numeral.{Numeral}
-use Rattle.lines.specs.declared.reading.Numeral.TheVariants.{Value, Nothing}
-
--- the place of the first b, or the length where there is none
-unfoldable pub first_place : ℕ → List ℕ → ℕ
-first_place b [] = 0
-first_place b (a ∷ s) = cond (eqb a b) 0 (suc (first_place b s))
+use Rattle.lines.specs.declared.Command.TheVariants.{Open, Add, Remove, Slot, Round, Fetch}
 
 -- a byte in front of the words of what follows it: a space ends an empty word, any other byte belongs to the word that follows
 abbrev pub parted : Bool → ℕ → List (List ℕ) → List (List ℕ)
@@ -38,22 +31,22 @@ spelled_number v [] = v
 spelled_number v (b ∷ s) = spelled_number (v * 10 + (b - 48)) s
 
 -- a word as a number: it has 1 to most digits and nothing else, and is at most limit
-unfoldable pub numeral : ℕ → ℕ → List ℕ → Numeral
+unfoldable pub numeral : ℕ → ℕ → List ℕ → Option ℕ
 numeral most limit w =
-    cond (leb 1 (length w) && leb (length w) most && all_digits w && leb (spelled_number 0 w) limit) (Value (spelled_number 0 w)) Nothing
+    cond (leb 1 (length w) && leb (length w) most && all_digits w && leb (spelled_number 0 w) limit) (Some (spelled_number 0 w)) None
 
 -- "numbers have 1 to 5 digits and are at most 65,535"
 abbrev pub most_digits : ℕ
 most_digits = 5
 
-abbrev pub short_number : List ℕ → Numeral
+abbrev pub short_number : List ℕ → Option ℕ
 short_number w = numeral most_digits 65535 w
 
 -- "`fetch TICKET` takes up to 20 digits, below 2^64"
 abbrev pub ticket_digits : ℕ
 ticket_digits = 20
 
-abbrev pub ticket : List ℕ → Numeral
+abbrev pub ticket : List ℕ → Option ℕ
 ticket w = numeral ticket_digits 18446744073709551615 w
 
 -- the words `open`, `add`, `remove`, `slot`, `round`, `fetch`
@@ -87,33 +80,33 @@ longest =
     (max (max (length slot_word) (length round_word)) (span fetch_word 1 ticket_digits))
 
 -- `slot`, `round`
-unfoldable pub lone_word : List ℕ → Command
-lone_word w = cond (same w slot_word) Slot (cond (same w round_word) Round Unknown)
+unfoldable pub lone_word : List ℕ → Option Command
+lone_word w = cond (same w slot_word) (Some Slot) (cond (same w round_word) (Some Round) None)
 
 -- `open C`, `remove NAME`
-unfoldable pub with_one : List ℕ → Numeral → Command
-with_one w Nothing = Unknown
-with_one w (Value x) = cond (same w open_word) (Open x) (cond (same w remove_word) (Remove x) Unknown)
+unfoldable pub with_one : List ℕ → Option ℕ → Option Command
+with_one w None = None
+with_one w (Some x) = cond (same w open_word) (Some (Open x)) (cond (same w remove_word) (Some (Remove x)) None)
 
 -- `fetch TICKET`
-abbrev pub with_ticket : Numeral → Command
-with_ticket Nothing = Unknown
-with_ticket (Value t) = Fetch t
+abbrev pub with_ticket : Option ℕ → Option Command
+with_ticket None = None
+with_ticket (Some t) = Some (Fetch t)
 
 -- `add NAME WEIGHT`
-unfoldable pub with_two : List ℕ → Numeral → Numeral → Command
-with_two w Nothing y = Unknown
-with_two w (Value x) Nothing = Unknown
-with_two w (Value x) (Value y) = cond (same w add_word) (Add x y) Unknown
+unfoldable pub with_two : List ℕ → Option ℕ → Option ℕ → Option Command
+with_two w None y = None
+with_two w (Some x) None = None
+with_two w (Some x) (Some y) = cond (same w add_word) (Some (Add x y)) None
 
 -- the command of a line's words; "anything else, an empty line included", is not understood
-unfoldable pub command : List (List ℕ) → Command
-command [] = Unknown
+unfoldable pub command : List (List ℕ) → Option Command
+command [] = None
 command (w ∷ []) = lone_word w
 command (w ∷ x ∷ []) = cond (same w fetch_word) (with_ticket (ticket x)) (with_one w (short_number x))
 command (w ∷ x ∷ y ∷ []) = with_two w (short_number x) (short_number y)
-command (w ∷ x ∷ y ∷ z ∷ ws) = Unknown
+command (w ∷ x ∷ y ∷ z ∷ ws) = None
 
 -- the command that a line is
-unfoldable pub parsed : List ℕ → Command
+unfoldable pub parsed : List ℕ → Option Command
 parsed line = command (words line)

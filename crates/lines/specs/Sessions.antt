@@ -4,34 +4,39 @@ use Rattle.std.specs.Prelude.{◌≡◌, cond, List, [], ◌∷◌, ◌++◌, �
 use Rattle.std.proofs.lemmas.List.Edits.{sets}
 use Rattle.calls.specs.Records.{drive_at}
 use Rattle.lines.specs.declared.hearing.Session.{Session}
-use Rattle.lines.specs.declared.hearing.Heard.{Heard}
+use Rattle.lines.specs.declared.hearing.Line.{Line}
 use Rattle.lines.specs.declared.hearing.Fed.{Fed}
 use Rattle.lines.specs.Grammar.{longest, parsed}
 use Rattle.general.specs.Lists.{blank}
-use Rattle.lines.specs.Replies.{reply_bytes, reply_line, drive_after, board_after, list_after}
+use Rattle.lines.specs.Replies.{reply_bytes, Written, reply_line, drive_after, board_after, list_after}
 
 -- how many bytes of a line are kept: one more than the longest command has, so that of a longer line more is kept than any command has
 abbrev pub kept_bytes : ℕ
 kept_bytes = suc longest
 
+-- nothing is heard of a line
+abbrev pub empty : Line
+empty = record { bytes = blank kept_bytes; count = 0 }
+
+-- one byte more of a line, as long as there is a place for it
+abbrev pub pushed : Line → ℕ → Line
+pushed l b = cond (ltb l.count kept_bytes) (record { bytes = set l.bytes l.count b; count = l.count + 1 }) l
+
 -- "The console starts with C and p zero", and nothing is heard yet
 abbrev pub started : Session
-started = record { drive = drive_at 0 0; start = blank kept_bytes; count = 0 }
+started = record { drive = drive_at 0 0; line = empty }
 
 -- the line that is being heard, as far as it is kept
 abbrev pub line_of : Session → List ℕ
-line_of s = take s.count s.start
+line_of s = take s.line.count s.line.bytes
 
--- the session with one byte more of the line, as long as there is a place for it
+-- the session with one byte more of the line
 abbrev pub kept : Session → ℕ → Session
-kept s b =
-    cond (ltb s.count kept_bytes)
-    (record { drive = s.drive; start = set s.start s.count b; count = s.count + 1 })
-    s
+kept s b = record { drive = s.drive; line = pushed s.line b }
 
 -- the session once its line has ended: the command was carried out, and the next line begins
 abbrev pub ended : Session → List ℕ → List ℕ → Session
-ended s B L = record { drive = drive_after (parsed (line_of s)) s.drive B L; start = s.start; count = 0 }
+ended s B L = record { drive = drive_after (parsed (line_of s)) s.drive B L; line = record { bytes = s.line.bytes; count = 0 } }
 
 -- what one byte does to the session, the board and the list, and what is said of it: a line feed ends the line
 abbrev pub session_after : Session → List ℕ → List ℕ → ℕ → Session
@@ -46,13 +51,12 @@ list_heard s B L b = cond (eqb b 10) (list_after (parsed (line_of s)) s.drive B 
 abbrev pub said_after : Session → List ℕ → List ℕ → ℕ → List ℕ
 said_after s B L b = cond (eqb b 10) (reply_line (parsed (line_of s)) s.drive B L) []
 
--- What hearing gives at a place of the lent bytes O: the next session, board and list, what is said from that place on, and nothing else of the bytes changed.
-pub record Hears (next : Session) (board list said O : List ℕ) (at : ℕ) (r : Heard) (B'' L' O' : List ℕ) : Type 0 where
-  pub handed : r ≡ record { session = next; to = at + length said }
+-- What hearing gives: the next session, board and list, how many bytes are said, these at the start of the lent bytes O, and nothing else of them changed.
+pub record Hears (next : Session) (board list said O : List ℕ) (s' : Session) (n : ℕ) (B'' L' O' : List ℕ) : Type 0 where
+  pub session : s' ≡ next
   pub leaves : B'' ≡ board
   pub waits : L' ≡ list
-  pub bytes : O' ≡ sets O at said
-  pub within : r.to ≤ at + reply_bytes
+  pub written : Written said O n O'
 
 -- A talk: the session, the board, the list, all that was said, and how many bytes were heard.
 pub record Talk : Type 0 where
@@ -88,7 +92,7 @@ fed_by t = record { session = t.session; used = t.used; to = length t.said }
 
 -- the end of the input is a line feed where a line has begun: "A last line need not end in a line feed."
 abbrev pub last_of : Session → List ℕ
-last_of s = cond (eqb s.count 0) [] (10 ∷ [])
+last_of s = cond (eqb s.line.count 0) [] (10 ∷ [])
 
 -- n counts bytes at the start of a list; the second part follows from the first, and spares a caller that lends those bytes a proof
 abbrev pub Counts : ℕ → List ℕ → Type 0

@@ -1,8 +1,9 @@
-// A session: input is cut into lines, whatever their length, and each line answered.
-ghost use Rattle.std.specs.Prelude.{◌≡◌, ◌+◌, ◌≤◌, min, length};
+// A session: input is cut into lines, whatever their length, and each line answered. The board, the list and the bytes
+// for replies come as three arguments all the way down: the public `feed` and `finish` are lent them apart.
+ghost use Rattle.std.specs.Prelude.{◌≡◌, ◌≤◌, length, take};
 ghost use Rattle.lines.specs.Grammar.{parsed};
 ghost use Rattle.lines.specs.Replies.{reply_bytes, reply_line, board_after, list_after};
-ghost use Rattle.lines.specs.Sessions.{started, line_of, kept as Sessions·kept, ended, session_after, board_heard, list_heard, said_after, last_of, Hears, Answered};
+ghost use Rattle.lines.specs.Sessions.{empty, pushed, started, line_of, ended, session_after, board_heard, list_heard, said_after, last_of, Hears, Answered};
 
 use crate::reading::parse;
 use crate::talking::{ROOM, answer};
@@ -12,23 +13,52 @@ use calls::Drive;
 // digits, so that a longer line is not understood, kept or whole.
 const KEPT: usize = 27;
 
-// The drive record, and what is kept of the line that is being heard.
-#[derive(Clone, Copy)]
-pub struct Session {
-    pub drive: Drive,
-    pub start: [u8; KEPT],
+// The start of the line that is being heard: its first `count` bytes. `feed` and `finish` promise the same for any session
+// that a caller makes, at every count, so it is no `ArrayVec` and no invariant bounds it: a count above `KEPT` is as good
+// as `KEPT`. Bytes past the count mean nothing, so two lines aren't compared.
+#[derive(Clone, Copy, Debug)]
+pub struct Line {
+    pub bytes: [u8; KEPT],
     pub count: usize,
 }
 
-// A session, and the place in the lent bytes after what was said.
-#[derive(Clone, Copy)]
-pub struct Heard {
-    pub session: Session,
-    pub to: usize,
+impl Line {
+    fn new() -> Line
+        ensures { result ≡ empty }
+    {
+        Line {
+            bytes: [0; KEPT],
+            count: 0,
+        }
+    }
+
+    // One byte more, as long as there is a place for it.
+    fn push(&mut self, b: u8)
+        ensures { self.new ≡ pushed self.old b }
+    {
+        let n = self.count;
+        if n < KEPT {
+            self.bytes[n] = b;
+            self.count = n + 1;
+        }
+    }
+
+    fn as_slice(&self) -> &[u8]
+        ensures { result.now ≡ take self.now.count self.now.bytes }
+    {
+        &self.bytes[..self.count.min(KEPT)]
+    }
 }
 
-// The same, and how many bytes of the input were heard.
-#[derive(Clone, Copy)]
+// The drive record, and what is kept of the line that is being heard.
+#[derive(Clone, Copy, Debug)]
+pub struct Session {
+    pub drive: Drive,
+    pub line: Line,
+}
+
+// A session, how many bytes of the input were heard, and the place in the lent bytes after what was said.
+#[derive(Clone, Copy, Debug)]
 pub struct Fed {
     pub session: Session,
     pub used: usize,
@@ -42,64 +72,32 @@ impl Session {
     {
         Session {
             drive: Drive::new(0, 0),
-            start: [0u8; KEPT],
-            count: 0,
+            line: Line::new(),
         }
     }
 
-    // One byte more of a line.
-    fn kept(mut self, b: u8) -> Session
-        ensures { result ≡ Sessions·kept self b }
+    // The end of a line: it is answered at the start of the lent bytes. Returns how many bytes were said.
+    fn end_line(&mut self, board: &mut [u16], list: &mut [u64], out: &mut [u8]) -> usize
+        requires { reply_bytes ≤ length out.old }
+        ensures { Hears (ended self.old board.old list.old) (board_after (parsed (line_of self.old)) self.old.drive board.old list.old) (list_after (parsed (line_of self.old)) self.old.drive board.old list.old) (reply_line (parsed (line_of self.old)) self.old.drive board.old list.old) out.old self.new result board.new list.new out.new }
     {
-        let n = self.count;
-        if n < KEPT {
-            self.start[n] = b;
-            self.count = n + 1;
+        let command = parse(self.line.as_slice());
+        let stepped = answer(command, self.drive, board, list, out);
+        self.drive = stepped.drive;
+        self.line.count = 0;
+        stepped.to
+    }
+
+    // One byte of input. Returns how many bytes were said.
+    fn hear(&mut self, b: u8, board: &mut [u16], list: &mut [u64], out: &mut [u8]) -> usize
+        requires { reply_bytes ≤ length out.old }
+        ensures { Hears (session_after self.old board.old list.old b) (board_heard self.old board.old list.old b) (list_heard self.old board.old list.old b) (said_after self.old board.old list.old b) out.old self.new result board.new list.new out.new }
+    {
+        if b == b'\n' {
+            return self.end_line(board, list, out);
         }
-        self
-    }
-}
-
-// The smaller of two numbers.
-fn least(a: usize, b: usize) -> usize
-    ensures { result ≡ min a b }
-{
-    if a < b { a } else { b }
-}
-
-// The end of a line: it is answered at a place of the lent bytes.
-fn end_line(s: Session, board: &mut [u16], list: &mut [u64], out: &mut [u8], at: usize) -> Heard
-    requires { at + reply_bytes ≤ length out.old }
-    ensures { Hears (ended s board.old list.old) (board_after (parsed (line_of s)) s.drive board.old list.old) (list_after (parsed (line_of s)) s.drive board.old list.old) (reply_line (parsed (line_of s)) s.drive board.old list.old) out.old at result board.new list.new out.new }
-{
-    let start = s.start;
-    let count = s.count;
-    let drive = s.drive;
-    let n = least(count, KEPT);
-    let command = parse(&start[..n]);
-    let stepped = answer(command, drive, board, list, out, at);
-    let next = stepped.drive;
-    Heard {
-        session: Session {
-            drive: next,
-            start,
-            count: 0,
-        },
-        to: stepped.to,
-    }
-}
-
-// One byte of input.
-fn hear(s: Session, b: u8, board: &mut [u16], list: &mut [u64], out: &mut [u8], at: usize) -> Heard
-    requires { at + reply_bytes ≤ length out.old }
-    ensures { Hears (session_after s board.old list.old b) (board_heard s board.old list.old b) (list_heard s board.old list.old b) (said_after s board.old list.old b) out.old at result board.new list.new out.new }
-{
-    if b == b'\n' {
-        return end_line(s, board, list, out, at);
-    }
-    Heard {
-        session: s.kept(b),
-        to: at,
+        self.line.push(b);
+        0
     }
 }
 
@@ -114,25 +112,17 @@ pub fn feed(
 ) -> Fed
     ensures { Answered session input.now board.old list.old out.old result board.new list.new out.new }
 {
-    let mut s = session;
+    let mut session = session;
     let mut to: usize = 0;
-    let mut i: usize = 0;
-    while i < input.len() {
-        if out.len() < to + ROOM {
-            return Fed {
-                session: s,
-                used: i,
-                to,
-            };
+    for (used, b) in input.iter().enumerate() {
+        if out.len() - to < ROOM {
+            return Fed { session, used, to };
         }
-        let heard = hear(s, input[i], board, list, out, to);
-        s = heard.session;
-        to = heard.to;
-        i += 1;
+        to += session.hear(*b, board, list, &mut out[to..]);
     }
     Fed {
-        session: s,
-        used: i,
+        session,
+        used: input.len(),
         to,
     }
 }
@@ -141,8 +131,7 @@ pub fn feed(
 pub fn finish(session: Session, board: &mut [u16], list: &mut [u64], out: &mut [u8]) -> Fed
     ensures { Answered session (last_of session) board.old list.old out.old result board.new list.new out.new }
 {
-    let count = session.count;
-    if count == 0 {
+    if session.line.count == 0 {
         return Fed {
             session,
             used: 0,

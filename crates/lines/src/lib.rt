@@ -6,19 +6,21 @@ mod reading;
 mod talking;
 mod writing;
 
-pub use hearing::{Fed, Session, feed, finish};
+pub use hearing::{Fed, Line, Session, feed, finish};
 pub use reading::parse;
 pub use talking::{ROOM, Stepped, step};
 
 // What a line asks for.
-#[derive(Clone, Copy)]
+#[derive(Clone, Copy, Debug, PartialEq, Eq)]
 pub enum Command {
+    // A new board of this capacity.
     Open(u16),
+    // A stream of this name and weight.
     Add(u16, u16),
+    // The stream of this name goes.
     Remove(u16),
     Slot,
     Round,
+    // What became of the order of this ticket.
     Fetch(u64),
-    // Not understood.
-    Unknown,
 }

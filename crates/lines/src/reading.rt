@@ -1,185 +1,109 @@
 // From a line's bytes to a command.
-ghost use Rattle.std.specs.Prelude.{◌≡◌, ◌∷◌};
-ghost use Rattle.general.specs.Tests.{same as Tests·same};
-ghost use Rattle.lines.specs.Grammar.{first_place, words, numeral, short_number as Grammar·number, ticket, lone_word, with_one, with_ticket, with_two, command, parsed};
+ghost use Rattle.std.specs.Prelude.{◌≡◌, ◌∷◌, []};
+ghost use Rattle.lines.specs.Grammar.{numeral, short_number as Grammar·number, lone_word, with_two, command, parsed};
 
 use crate::Command;
 
-// A word read as a number.
-#[derive(Clone, Copy)]
-pub enum Numeral {
-    Value(usize),
-    Nothing,
-}
+// The words of the language.
+const OPEN: &[u8] = b"open";
+
+const ADD: &[u8] = b"add";
+
+const REMOVE: &[u8] = b"remove";
+
+const SLOT: &[u8] = b"slot";
+
+const ROUND: &[u8] = b"round";
+
+const FETCH: &[u8] = b"fetch";
 
 // Numbers have 1 to 5 digits and are at most 65,535.
 const MOST_DIGITS: usize = 5;
 
-const LARGEST_NUMBER: usize = 65535;
-
 // Tickets have 1 to 20 digits and are below 2^64.
 const MOST_TICKET_DIGITS: usize = 20;
 
-const LARGEST_TICKET: usize = 18446744073709551615;
-
-// The place of the first `b` in `s`, or the length of `s` where it has none.
-fn find(s: &[u8], b: u8) -> usize
-    ensures { result ≡ first_place b s.now }
-{
-    let mut i = 0;
-    while i < s.len() {
-        if s[i] == b {
-            return i;
-        }
-        i += 1;
-    }
-    i
-}
-
-// Whether two words are the same.
-fn same(s: &[u8], t: &[u8]) -> bool
-    ensures { result ≡ Tests·same s.now t.now }
-{
-    if s.len() != t.len() {
-        return false;
-    }
-    let mut i = 0;
-    while i < s.len() {
-        if s[i] != t[i] {
-            return false;
-        }
-        i += 1;
-    }
-    true
-}
-
 // The number that a word of at most `most` digits spells, if it is at most `limit`.
-fn number(word: &[u8], most: usize, limit: usize) -> Numeral
+fn number(word: &[u8], most: usize, limit: u64) -> Option<u64>
     ensures { result ≡ numeral most limit word.now }
 {
-    if word.len() == 0 {
-        return Numeral::Nothing;
+    if word.is_empty() || most < word.len() {
+        return None;
     }
-    if most < word.len() {
-        return Numeral::Nothing;
+    let mut value: u64 = 0;
+    for b in word {
+        if !b.is_ascii_digit() {
+            return None;
+        }
+        value = value.checked_mul(10)?.checked_add(u64::from(*b - b'0'))?;
+        if limit < value {
+            return None;
+        }
     }
-    let mut value: usize = 0;
-    let mut i = 0;
-    while i < word.len() {
-        // The digits are the bytes 48 to 57.
-        let b = word[i] as usize;
-        if b < 48 {
-            return Numeral::Nothing;
-        }
-        if 57 < b {
-            return Numeral::Nothing;
-        }
-        let d = b - 48;
-        if limit < d {
-            return Numeral::Nothing;
-        }
-        if (limit - d) / 10 < value {
-            return Numeral::Nothing;
-        }
-        value = value * 10 + d;
-        i += 1;
-    }
-    Numeral::Value(value)
+    Some(value)
+}
+
+// The number that a word of at most five digits spells.
+fn short_number(word: &[u8]) -> Option<u16>
+    ensures { result ≡ Grammar·number word.now }
+{
+    let n = number(word, MOST_DIGITS, u64::from(u16::MAX))?;
+    u16::try_from(n).ok()
 }
 
 // The command of a line of one word.
-fn lone_word(word: &[u8]) -> Command
+fn lone_word(word: &[u8]) -> Option<Command>
     ensures { result ≡ lone_word word.now }
 {
-    if same(word, b"slot") {
-        return Command::Slot;
-    }
-    if same(word, b"round") {
-        return Command::Round;
-    }
-    Command::Unknown
-}
-
-// The command of a line of two words, the first not being `fetch`.
-fn with_one(word: &[u8], first: &[u8]) -> Command
-    ensures { result ≡ with_one word.now (Grammar·number first.now) }
-{
-    match number(first, MOST_DIGITS, LARGEST_NUMBER) {
-        Numeral::Nothing => Command::Unknown,
-        Numeral::Value(x) => {
-            let n = x as u16;
-            if same(word, b"open") {
-                return Command::Open(n);
-            }
-            if same(word, b"remove") {
-                return Command::Remove(n);
-            }
-            Command::Unknown
-        }
+    if word == SLOT {
+        Some(Command::Slot)
+    } else if word == ROUND {
+        Some(Command::Round)
+    } else {
+        None
     }
 }
 
-// The command of a line of two words, the first being `fetch`.
-fn with_ticket(first: &[u8]) -> Command
-    ensures { result ≡ with_ticket (ticket first.now) }
+// The command of a line of two words.
+fn with_one(word: &[u8], first: &[u8]) -> Option<Command>
+    ensures { result ≡ command (word.now ∷ first.now ∷ []) }
 {
-    match number(first, MOST_TICKET_DIGITS, LARGEST_TICKET) {
-        Numeral::Nothing => Command::Unknown,
-        Numeral::Value(t) => Command::Fetch(t as u64),
+    if word == FETCH {
+        Some(Command::Fetch(number(first, MOST_TICKET_DIGITS, u64::MAX)?))
+    } else if word == OPEN {
+        Some(Command::Open(short_number(first)?))
+    } else if word == REMOVE {
+        Some(Command::Remove(short_number(first)?))
+    } else {
+        None
     }
 }
 
 // The command of a line of three words.
-fn with_two(word: &[u8], first: &[u8], second: &[u8]) -> Command
+fn with_two(word: &[u8], first: &[u8], second: &[u8]) -> Option<Command>
     ensures { result ≡ with_two word.now (Grammar·number first.now) (Grammar·number second.now) }
 {
-    match number(first, MOST_DIGITS, LARGEST_NUMBER) {
-        Numeral::Nothing => Command::Unknown,
-        Numeral::Value(x) => match number(second, MOST_DIGITS, LARGEST_NUMBER) {
-            Numeral::Nothing => Command::Unknown,
-            Numeral::Value(y) => {
-                if same(word, b"add") {
-                    return Command::Add(x as u16, y as u16);
-                }
-                Command::Unknown
-            }
-        },
+    if word == ADD {
+        Some(Command::Add(short_number(first)?, short_number(second)?))
+    } else {
+        None
     }
 }
 
-// The command of a line whose first two words are cut off.
-fn after_two(word: &[u8], first: &[u8], rest: &[u8]) -> Command
-    ensures { result ≡ command (word.now ∷ first.now ∷ words rest.now) }
-{
-    if find(rest, b' ') == rest.len() {
-        return with_two(word, first, rest);
-    }
-    Command::Unknown
-}
-
-// The command of a line whose first word is cut off.
-fn after_one(word: &[u8], rest: &[u8]) -> Command
-    ensures { result ≡ command (word.now ∷ words rest.now) }
-{
-    let end = find(rest, b' ');
-    if end < rest.len() {
-        let next = end + 1;
-        return after_two(word, &rest[..end], &rest[next..]);
-    }
-    if same(word, b"fetch") {
-        return with_ticket(rest);
-    }
-    with_one(word, rest)
-}
-
-// The command that a line is, given without its line feed.
-pub fn parse(line: &[u8]) -> Command
+// The command that a line is, given without its line feed; `None` where it is not understood.
+pub fn parse(line: &[u8]) -> Option<Command>
     ensures { result ≡ parsed line.now }
 {
-    let end = find(line, b' ');
-    if end < line.len() {
-        let next = end + 1;
-        return after_one(&line[..end], &line[next..]);
+    let mut words = line.split(|b| *b == b' ');
+    let word = words.next()?;
+    let Some(first) = words.next() else {
+        return lone_word(word);
+    };
+    let Some(second) = words.next() else {
+        return with_one(word, first);
+    };
+    match words.next() {
+        None => with_two(word, first, second),
+        Some(_) => None,
     }
-    lone_word(line)
 }

@@ -1,20 +1,21 @@
-// A command is carried out, and its answer written as a line.
-ghost use Rattle.std.specs.Prelude.{◌≡◌, [], ◌+◌, ◌≤◌, length};
+// A command is carried out, and its answer written as a line. The board, the list and the bytes for the reply come as
+// three arguments all the way down: the public `step` is lent them apart.
+ghost use Rattle.std.specs.Prelude.{◌≡◌, [], ◌≤◌, length};
 ghost use Rattle.calls.specs.Refusals.{number_of};
 ghost use Rattle.calls.specs.Results.{if_clear};
 ghost use Rattle.general.specs.Lists.{blank};
 ghost use Rattle.lines.specs.Printing.{line, unknown_line};
-ghost use Rattle.lines.specs.Replies.{reply_bytes, Told, check_line, ordering_line, serving_line, round_line, outcome_line, fetching_line, reply_line, drive_after, board_after, list_after, Steps};
+ghost use Rattle.lines.specs.Replies.{reply_bytes, Written, Told, check_line, ordering_line, serving_line, round_line, outcome_line, fetching_line, reply_line, drive_after, board_after, list_after, Steps};
 
 use crate::Command;
 use crate::reading::parse;
-use crate::writing::{put_alone, put_line, put_value};
-use calls::{Check, Checked, Drive, Refusal, Served, Serving};
-use orders::{Ordered, Ordering};
-use waiting::Fetching;
+use crate::writing::{put_alone, put_done, put_value};
+use calls::{Checked, Drive, Refusal, Served, Slot};
+use orders::{Accepted, Declined, Ordered};
+use waiting::{Outcome, Unfetched};
 
 // The record after a command, and the place in the lent bytes after its reply.
-#[derive(Clone, Copy)]
+#[derive(Clone, Copy, Debug, PartialEq, Eq)]
 pub struct Stepped {
     pub drive: Drive,
     pub to: usize,
@@ -23,124 +24,97 @@ pub struct Stepped {
 // Room for any reply: an answer number of two digits, 4,095 values of five digits, each after a space, and a line feed.
 pub const ROOM: usize = 24573;
 
+// The answer numbers of what is no refusal, and of a lack of room, by the table of docs/CALLS.md: the console prints
+// numbers, and the types that answer here carry none.
+const DONE: u64 = 0;
+
+const NO_ROOM: u64 = 10;
+
+const WAITING: u64 = 13;
+
+const QUEUE: u64 = 14;
+
+const TICKET: u64 = 15;
+
 // The line of a refusal.
-fn tell_refusal(drive: Drive, refusal: Refusal, out: &mut [u8], at: usize) -> Stepped
-    requires { at + reply_bytes ≤ length out.old }
-    ensures { Told drive (line (number_of refusal) []) out.old at result out.new }
+fn tell_refusal(refusal: Refusal, out: &mut [u8]) -> usize
+    requires { reply_bytes ≤ length out.old }
+    ensures { Written (line (number_of refusal) []) out.old result out.new }
 {
-    let number = refusal.number();
-    Stepped {
-        drive,
-        to: put_alone(out, at, number as u64),
-    }
+    put_alone(out, u64::from(refusal.number()))
 }
 
 // The line of an open; refused, it keeps the old record.
-fn tell_opened(old: Drive, opened: Checked, out: &mut [u8], at: usize) -> Stepped
-    requires { at + reply_bytes ≤ length out.old }
-    ensures { Told (if_clear opened.answer opened.drive old) (check_line opened.answer []) out.old at result out.new }
+fn tell_opened(old: Drive, opened: Checked, out: &mut [u8]) -> Stepped
+    requires { reply_bytes ≤ length out.old }
+    ensures { Told (if_clear opened.answer opened.drive old) (check_line opened.answer []) out.old result out.new }
 {
-    let new = opened.drive;
-    let answer = opened.answer;
-    match answer {
-        Check::Clear => Stepped {
-            drive: new,
-            to: put_alone(out, at, 0),
+    match opened.answer {
+        Ok(()) => Stepped {
+            drive: opened.drive,
+            to: put_alone(out, DONE),
         },
-        Check::Refused(r) => tell_refusal(old, r, out, at),
+        Err(r) => Stepped {
+            drive: old,
+            to: tell_refusal(r, out),
+        },
     }
 }
 
 // The line of an add or a remove.
-fn tell_ordered(ordered: Ordered, out: &mut [u8], at: usize) -> Stepped
-    requires { at + reply_bytes ≤ length out.old }
-    ensures { Told ordered.drive (ordering_line ordered.answer) out.old at result out.new }
+fn tell_ordered(ordered: Ordered, out: &mut [u8]) -> Stepped
+    requires { reply_bytes ≤ length out.old }
+    ensures { Told ordered.drive (ordering_line ordered.answer) out.old result out.new }
 {
-    let drive = ordered.drive;
-    let answer = ordered.answer;
-    match answer {
-        Ordering::Done(idle) => Stepped {
-            drive,
-            to: put_value(out, at, 0, idle as u64),
-        },
-        Ordering::Room(idle) => Stepped {
-            drive,
-            to: put_value(out, at, 10, idle as u64),
-        },
-        Ordering::Waiting(ticket) => Stepped {
-            drive,
-            to: put_value(out, at, 13, ticket),
-        },
-        Ordering::Queue => Stepped {
-            drive,
-            to: put_alone(out, at, 14),
-        },
-        Ordering::Refused(r) => tell_refusal(drive, r, out, at),
+    let to = match ordered.answer {
+        Ok(Accepted::Done(idle)) => put_value(out, DONE, u64::from(idle)),
+        Err(Declined::Room(idle)) => put_value(out, NO_ROOM, u64::from(idle)),
+        Ok(Accepted::Waiting(ticket)) => put_value(out, WAITING, ticket),
+        Err(Declined::Queue) => put_alone(out, QUEUE),
+        Err(Declined::Refused(r)) => tell_refusal(r, out),
+    };
+    Stepped {
+        drive: ordered.drive,
+        to,
     }
 }
 
 // The line of an answer that was fetched, as the change would have had it: the idle leaves stand after 0 and after 10.
-fn tell_outcome(drive: Drive, number: u64, value: u64, out: &mut [u8], at: usize) -> Stepped
-    requires { at + reply_bytes ≤ length out.old }
-    ensures { Told drive (outcome_line number value) out.old at result out.new }
+fn tell_outcome(number: u64, value: u64, out: &mut [u8]) -> usize
+    requires { reply_bytes ≤ length out.old }
+    ensures { Written (outcome_line number value) out.old result out.new }
 {
-    if number == 0 {
-        return Stepped {
-            drive,
-            to: put_value(out, at, number, value),
-        };
-    }
-    if number == 10 {
-        return Stepped {
-            drive,
-            to: put_value(out, at, number, value),
-        };
-    }
-    Stepped {
-        drive,
-        to: put_alone(out, at, number),
+    if number == DONE || number == NO_ROOM {
+        put_value(out, number, value)
+    } else {
+        put_alone(out, number)
     }
 }
 
 // The line of a fetch.
-fn tell_fetching(drive: Drive, answer: Fetching, out: &mut [u8], at: usize) -> Stepped
-    requires { at + reply_bytes ≤ length out.old }
-    ensures { Told drive (fetching_line answer) out.old at result out.new }
+fn tell_fetching(answer: Result<Outcome, Unfetched>, out: &mut [u8]) -> usize
+    requires { reply_bytes ≤ length out.old }
+    ensures { Written (fetching_line answer) out.old result out.new }
 {
     match answer {
-        Fetching::Answer { number, value } => tell_outcome(drive, number, value, out, at),
-        Fetching::Waits(ticket) => Stepped {
-            drive,
-            to: put_value(out, at, 13, ticket),
-        },
-        Fetching::Unknown => Stepped {
-            drive,
-            to: put_alone(out, at, 15),
-        },
+        Ok(Outcome { number, value }) => tell_outcome(number, value, out),
+        Err(Unfetched::Waits(ticket)) => put_value(out, WAITING, ticket),
+        Err(Unfetched::Unknown) => put_alone(out, TICKET),
     }
 }
 
 // The line of a slot.
-fn tell_served(served: Served, out: &mut [u8], at: usize) -> Stepped
-    requires { at + reply_bytes ≤ length out.old }
-    ensures { Told served.drive (serving_line served.answer) out.old at result out.new }
+fn tell_served(served: Served, out: &mut [u8]) -> Stepped
+    requires { reply_bytes ≤ length out.old }
+    ensures { Told served.drive (serving_line served.answer) out.old result out.new }
 {
-    let drive = served.drive;
-    let answer = served.answer;
-    match answer {
-        Serving::Slot {
-            name,
-            leaf,
-            passed: _,
-            round: _,
-        } => {
-            let values = [name, leaf];
-            Stepped {
-                drive,
-                to: put_line(out, at, 0, &values),
-            }
-        }
-        Serving::Refused(r) => tell_refusal(drive, r, out, at),
+    let to = match served.answer {
+        Ok(Slot { name, leaf, .. }) => put_done(out, &[name, leaf]),
+        Err(r) => tell_refusal(r, out),
+    };
+    Stepped {
+        drive: served.drive,
+        to,
     }
 }
 
@@ -152,70 +126,64 @@ fn no_names() -> [u16; Drive::LARGEST]
 }
 
 // Writes a round and its line.
-fn tell_round(drive: Drive, board: &[u16], out: &mut [u8], at: usize) -> Stepped
-    requires { at + reply_bytes ≤ length out.old }
-    ensures { Told drive (round_line drive board.now) out.old at result out.new }
+fn tell_round(drive: Drive, board: &[u16], out: &mut [u8]) -> usize
+    requires { reply_bytes ≤ length out.old }
+    ensures { Written (round_line drive board.now) out.old result out.new }
 {
     let mut names = no_names();
     let rounded = drive.round(board, &mut names);
-    let answer = rounded.answer;
-    match answer {
-        Check::Clear => {
-            let c = drive.capacity as usize;
-            Stepped {
-                drive,
-                to: put_line(out, at, 0, &names[..c]),
-            }
-        }
-        Check::Refused(r) => tell_refusal(drive, r, out, at),
+    match rounded.answer {
+        Ok(()) => put_done(out, &names[..usize::from(drive.capacity)]),
+        Err(r) => tell_refusal(r, out),
     }
 }
 
 // The line for what is not understood.
-fn tell_unknown(drive: Drive, out: &mut [u8], at: usize) -> Stepped
-    requires { at + reply_bytes ≤ length out.old }
-    ensures { Told drive unknown_line out.old at result out.new }
+fn tell_unknown(out: &mut [u8]) -> usize
+    requires { reply_bytes ≤ length out.old }
+    ensures { Written unknown_line out.old result out.new }
 {
-    out[at] = b'?';
-    out[at + 1] = b'\n';
-    Stepped { drive, to: at + 2 }
+    out[..2].copy_from_slice(b"?\n");
+    2
 }
 
 // Carries out a command and writes its reply.
+#[tactic(auto, unfolding(crate::specs::Replies::drive_after, crate::specs::Replies::reply_line, crate::specs::Replies::board_after, crate::specs::Replies::list_after))]
 pub fn answer(
-    command: Command,
+    command: Option<Command>,
     drive: Drive,
     board: &mut [u16],
     list: &mut [u64],
     out: &mut [u8],
-    at: usize,
 ) -> Stepped
-    requires { at + reply_bytes ≤ length out.old }
-    ensures { (Told (drive_after command drive board.old list.old) (reply_line command drive board.old list.old) out.old at result out.new) × (board.new ≡ board_after command drive board.old list.old) × (list.new ≡ list_after command drive board.old list.old) }
+    requires { reply_bytes ≤ length out.old }
+    ensures told { Told (drive_after command drive board.old list.old) (reply_line command drive board.old list.old) out.old result out.new }
+    ensures leaves { board.new ≡ board_after command drive board.old list.old }
+    ensures waits { list.new ≡ list_after command drive board.old list.old }
 {
     match command {
-        Command::Open(capacity) => {
-            let opened = orders::open(capacity, board, list);
-            tell_opened(drive, opened, out, at)
+        Some(Command::Open(capacity)) => {
+            tell_opened(drive, orders::open(capacity, board, list), out)
         }
-        Command::Add(name, weight) => {
-            let ordered = orders::add(drive, board, list, name, weight);
-            tell_ordered(ordered, out, at)
+        Some(Command::Add(name, weight)) => {
+            tell_ordered(orders::add(drive, board, list, name, weight), out)
         }
-        Command::Remove(name) => {
-            let ordered = orders::remove(drive, board, list, name);
-            tell_ordered(ordered, out, at)
+        Some(Command::Remove(name)) => {
+            tell_ordered(orders::remove(drive, board, list, name), out)
         }
-        Command::Slot => {
-            let served = orders::slot(drive, board, list);
-            tell_served(served, out, at)
-        }
-        Command::Round => tell_round(drive, board, out, at),
-        Command::Fetch(ticket) => {
-            let fetched = waiting::fetch(list, ticket);
-            tell_fetching(drive, fetched, out, at)
-        }
-        Command::Unknown => tell_unknown(drive, out, at),
+        Some(Command::Slot) => tell_served(orders::slot(drive, board, list), out),
+        Some(Command::Round) => Stepped {
+            drive,
+            to: tell_round(drive, board, out),
+        },
+        Some(Command::Fetch(ticket)) => Stepped {
+            drive,
+            to: tell_fetching(waiting::fetch(list, ticket), out),
+        },
+        None => Stepped {
+            drive,
+            to: tell_unknown(out),
+        },
     }
 }
 
@@ -233,6 +201,5 @@ pub fn step(
     if out.len() < ROOM {
         return Stepped { drive, to: 0 };
     }
-    let command = parse(line);
-    answer(command, drive, board, list, out, 0)
+    answer(parse(line), drive, board, list, out)
 }

@@ -1,73 +1,79 @@
-// Numbers and lines, written at a place of a lent run of bytes. Each function returns the place after what it wrote.
-ghost use Rattle.std.specs.Prelude.{◌≡◌, [], ◌∷◌, ◌+◌, ◌*◌, ◌≤◌, ◌<◌, length};
+// Numbers and lines, written to the start of a lent run of bytes. Each function returns how many bytes it wrote.
+ghost use Rattle.std.specs.Prelude.{◌≡◌, [], ◌∷◌, ◌≤◌, length};
 ghost use Rattle.std.proofs.lemmas.List.Edits.{sets};
 ghost use Rattle.lines.specs.Printing.{decimal, field, fields, line};
+ghost use Rattle.lines.specs.Replies.{reply_bytes, Written};
+
+use itoa::Buffer;
 
 // A number's digits.
-fn put_number(out: &mut [u8], at: usize, n: u64) -> usize
-    requires { at + length (decimal n) ≤ length out.old }
-    ensures { (result ≡ at + length (decimal n)) × (out.new ≡ sets out.old at (decimal n)) }
+fn put_number(out: &mut [u8], n: u64) -> usize
+    requires { length (decimal n) ≤ length out.old }
+    ensures { (result ≡ length (decimal n)) × (out.new ≡ sets out.old 0 (decimal n)) }
 {
-    if n < 10 {
-        out[at] = 48 + n as u8;
-        return at + 1;
-    }
-    let last = put_number(out, at, n / 10);
-    out[last] = 48 + (n % 10) as u8;
-    last + 1
+    let mut buffer = Buffer::new();
+    let digits = buffer.format(n).as_bytes();
+    let count = digits.len();
+    out[..count].copy_from_slice(digits);
+    count
 }
 
 // A space and a value.
-fn put_field(out: &mut [u8], at: usize, n: u64) -> usize
-    requires { at + length (field n) ≤ length out.old }
-    ensures { (result ≡ at + length (field n)) × (out.new ≡ sets out.old at (field n)) }
+fn put_field(out: &mut [u8], n: u64) -> usize
+    requires { length (field n) ≤ length out.old }
+    ensures { (result ≡ length (field n)) × (out.new ≡ sets out.old 0 (field n)) }
 {
-    out[at] = b' ';
-    put_number(out, at + 1, n)
+    out[0] = b' ';
+    1 + put_number(&mut out[1..], n)
 }
 
-// A space and a value for each of the values, which have at most five digits.
-fn put_fields(out: &mut [u8], at: usize, values: &[u16]) -> usize
-    requires { at + 6 * length values.now ≤ length out.old }
-    ensures { (result ≡ at + length (fields values.now)) × (out.new ≡ sets out.old at (fields values.now)) × (result ≤ at + 6 * length values.now) }
+// A space and a value for each of the values.
+fn put_fields(out: &mut [u8], values: &[u16]) -> usize
+    requires { length (fields values.now) ≤ length out.old }
+    ensures { (result ≡ length (fields values.now)) × (out.new ≡ sets out.old 0 (fields values.now)) }
 {
-    let mut to = at;
-    let mut i = 0;
-    while i < values.len() {
-        to = put_field(out, to, values[i] as u64);
-        i += 1;
+    let mut at: usize = 0;
+    for n in values {
+        at += put_field(&mut out[at..], u64::from(*n));
     }
-    to
+    at
 }
 
-// A line: the answer number, which has at most two digits, the values, and a line feed.
-pub fn put_line(out: &mut [u8], at: usize, number: u64, values: &[u16]) -> usize
-    requires { (number < 100) × (at + (3 + 6 * length values.now) ≤ length out.old) }
-    ensures { (result ≡ at + length (line number values.now)) × (out.new ≡ sets out.old at (line number values.now)) × (result ≤ at + (3 + 6 * length values.now)) }
+// A line: the answer number, the values, and a line feed.
+fn put_line(out: &mut [u8], number: u64, values: &[u16]) -> usize
+    requires { length (line number values.now) ≤ length out.old }
+    ensures { (result ≡ length (line number values.now)) × (out.new ≡ sets out.old 0 (line number values.now)) }
 {
-    let numbered = put_number(out, at, number);
-    let valued = put_fields(out, numbered, values);
-    out[valued] = b'\n';
-    valued + 1
+    let mut at = put_number(out, number);
+    at += put_fields(&mut out[at..], values);
+    out[at] = b'\n';
+    at + 1
 }
 
-// A line of a number alone.
-pub fn put_alone(out: &mut [u8], at: usize, number: u64) -> usize
-    requires { at + 21 ≤ length out.old }
-    ensures { (result ≡ at + length (line number [])) × (out.new ≡ sets out.old at (line number [])) × (result ≤ at + 21) }
+// A reply of a number alone.
+pub fn put_alone(out: &mut [u8], number: u64) -> usize
+    requires { reply_bytes ≤ length out.old }
+    ensures { Written (line number []) out.old result out.new }
 {
-    let end = put_number(out, at, number);
-    out[end] = b'\n';
-    end + 1
+    put_line(out, number, &[])
 }
 
-// A line of a number and one value. Either has at most twenty digits.
-pub fn put_value(out: &mut [u8], at: usize, number: u64, value: u64) -> usize
-    requires { at + 42 ≤ length out.old }
-    ensures { (result ≡ at + length (line number (value ∷ []))) × (out.new ≡ sets out.old at (line number (value ∷ []))) × (result ≤ at + 42) }
+// A reply of a number and one value: a ticket has 64 bits, and `put_line` takes entries of 16.
+pub fn put_value(out: &mut [u8], number: u64, value: u64) -> usize
+    requires { reply_bytes ≤ length out.old }
+    ensures { Written (line number (value ∷ [])) out.old result out.new }
 {
-    let numbered = put_number(out, at, number);
-    let last = put_field(out, numbered, value);
-    out[last] = b'\n';
-    last + 1
+    let mut at = put_number(out, number);
+    at += put_field(&mut out[at..], value);
+    out[at] = b'\n';
+    at + 1
+}
+
+// A reply that is done, with its values.
+pub fn put_done(out: &mut [u8], values: &[u16]) -> usize
+    requires few { length values.now ≤ 4095 }
+    requires room { reply_bytes ≤ length out.old }
+    ensures { Written (line 0 values.now) out.old result out.new }
+{
+    put_line(out, 0, values)
 }

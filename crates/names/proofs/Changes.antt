@@ -6,7 +6,7 @@ use Prim.Native.Nat.{ℕ, suc, ◌+◌, ◌/◌, ◌%◌, ◌≤◌, ◌<◌}
 use native.Mathlib.Omega.{arith}
 use native.Mathlib.Decide.{ℕ_discrete}
 use lib.Dec.{eqb}
-use lib.ListN.{length, get_or, set, length-set}
+use lib.ListN.{get_or, set, length-set}
 use lib.Seq.{get_or-set_same, get_or-set_other}
 use borrow.Author.Tests.{eq-eqb, ne_eqb}
 use Rattle.names.specs.Table.{rows_taken, next_row, first_row, row_from, row_of, number_under, cell, Table, Added, Entered}
@@ -186,34 +186,6 @@ module _ (M : List ℕ) (T : Table M) (x v : ℕ) (name : x < 65536) (low : v < 
           many = omega (arith, A.many);
           again = λ p. absurd (p z);
         }
-
--- ---- the cells that a new row takes
-
-module _ (M : List ℕ) (x v n w : ℕ) (e : n ≡ suc (rows_taken M)) (free : rows_taken M < 4096) (size : length M ≡ 12290) (f : w ≡ first_row M (x % 4096)) where
-  abbrev B₁ : List ℕ
-  B₁ = set M 4097 n
-
-  abbrev B₂ : List ℕ
-  B₂ = set B₁ (4097 + n) w
-
-  abbrev B₃ : List ℕ
-  B₃ = set B₂ (8194 + x % 4096) n
-
-  kept : (i : ℕ) → (i ≡ n → ⊥) → (i ≡ 4097 + n → ⊥) → (i ≡ 8194 + x % 4096 → ⊥) → get_or (set B₃ n (cell x v)) i 0 ≡ get_or B₁ i 0
-  kept i p r s = get_or-set_other B₃ n i (cell x v) 0 p ∙ get_or-set_other B₂ (8194 + x % 4096) i n 0 s ∙ get_or-set_other B₁ (4097 + n) i w 0 r
-
-  pub added_set : Added M (set B₃ n (cell x v)) x v
-  added_set =
-      record {
-        size = simp length-set;
-        here = rw (← e) (get_or-set_same B₃ n (cell x v) 0 (simp length-set (omega arith)));
-        many = kept 4097 (λ q. omega arith) (λ q. omega arith) (λ q. omega arith) ∙ get_or-set_same M 4097 n 0 (omega arith) ∙ e;
-        link = rw (← e, ← f)
-            (get_or-set_other B₃ n (4097 + n) (cell x v) 0 (λ q. omega arith) ∙ get_or-set_other B₂ (8194 + x % 4096) (4097 + n) n 0 (λ q. omega arith)
-            ∙ get_or-set_same B₁ (4097 + n) w 0 (simp length-set (omega arith)));
-        start = rw (← e) (get_or-set_other B₃ n (8194 + x % 4096) (cell x v) 0 (λ q. omega arith) ∙ get_or-set_same B₂ (8194 + x % 4096) n 0 (simp length-set (omega arith)));
-        others = λ i p q r s. kept i (λ z. p (z ∙ e)) (λ z. r (z ∙ ap (λ (k : ℕ). 4097 + k) e)) s ∙ get_or-set_other M 4097 i n 0 q;
-      }
 
 -- ---- no change
 

@@ -5,10 +5,11 @@ use Prim.Native.Nat.{ℕ, zero, suc, ◌+◌, ◌-◌, ◌/◌, ◌%◌, ◌≤�
 use native.Mathlib.Omega.{arith}
 use native.Mathlib.Decide.{ℕ_discrete}
 use lib.ListN.{length, get_or}
+use Rattle.std.specs.Prelude.{Some, None}
 use borrow.Author.Tests.{eq-eqb, ne_eqb}
 use Rattle.general.specs.Lists.{blank}
 use Rattle.general.proofs.Laws.{blank_zero, blank_length}
-use Rattle.names.specs.Table.{rows_taken, next_row, first_row, row_from, row_of, number_under, Table, Empty, Finds}
+use Rattle.names.specs.Table.{rows_taken, next_row, first_row, row_from, row_of, number_under, row_found, Table, Empty, Finds}
 
 -- ---- one step of a walk
 
@@ -155,9 +156,9 @@ module _ (M : List ℕ) (T : Table M) (x : ℕ) where
         let s : suc (n - 1) ≡ n = omega arith in
         sym (sym w.left ∙ sym (ap (λ (k : ℕ). row_from M (x / 4096) k n) s) ∙ walk_here M (x / 4096) (n - 1) n (λ z. omega arith) e)
 
-    pub walking_here : 0 < n → get_or M n 0 / 4096 ≡ x / 4096 → Finds M x (record { row = n; number = get_or M n 0 % 4096 })
+    pub walking_here : 0 < n → get_or M n 0 / 4096 ≡ x / 4096 → Finds M x (record { row = Some n; number = get_or M n 0 % 4096 })
     unfolding number_under
-    walking_here p e = record { row = here p e; number = ap (λ (k : ℕ). get_or M k 0 % 4096) (here p e) }
+    walking_here p e = record { row = rw (← here p e) (rw (ne_eqb n 0 (λ z. omega arith)) refl); number = ap (λ (k : ℕ). get_or M k 0 % 4096) (here p e) }
 
     pub walking_next : 0 < n → (get_or M n 0 / 4096 ≡ x / 4096 → ⊥) → Walking M x (next_row M n)
     walking_next p e =
@@ -170,10 +171,10 @@ module _ (M : List ℕ) (T : Table M) (x : ℕ) where
               ∙ sym (walk_on M (x / 4096) (n - 1) n (λ z. omega arith) e) ∙ ap (λ (k : ℕ). row_from M (x / 4096) k n) s ∙ w.left;
         }
 
-    pub walking_none : n ≡ 0 → Finds M x (record { row = 0; number = 0 })
+    pub walking_none : n ≡ 0 → Finds M x (record { row = None; number = 0 })
     walking_none z =
         let e : row_of M x ≡ 0 = sym w.left ∙ walk_none M (x / 4096) n n z in
-        record { row = sym e; number = sym (number_none M T x e) }
+        record { row = rw e refl; number = sym (number_none M T x e) }
 
 -- ---- a table without numbers
 
@@ -202,3 +203,18 @@ zeros_empty M size z =
 
 pub blank_empty : (n : ℕ) → n ≡ 12290 → Empty (blank n)
 blank_empty n e = zeros_empty (blank n) (blank_length n ∙ e) (blank_zero n)
+
+-- ---- what a search found
+
+module _ (M : List ℕ) (x : ℕ) where
+  pub found_none : None ≡ row_found M x → row_of M x ≡ 0
+  found_none e = elim (ℕ_discrete (row_of M x) 0) [
+    | yes z ↦ z
+    | no p ↦ absurd (grind (arith, rw (ne_eqb (row_of M x) 0 p) at e))
+  ]
+
+  pub found_row : (n : ℕ) → Some n ≡ row_found M x → (row_of M x ≡ n) × (n ≡ 0 → ⊥)
+  found_row n e = elim (ℕ_discrete (row_of M x) 0) [
+    | yes z ↦ absurd (grind (arith, rw z at e))
+    | no p ↦ let q : row_of M x ≡ n = grind (arith, rw (ne_eqb (row_of M x) 0 p) at e) in (q, λ z. p (q ∙ z))
+  ]

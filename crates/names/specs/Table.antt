@@ -2,7 +2,7 @@
 -- Of its 12,290 cells cell n, for a row n from 1 to 4,096, has the high four binary digits of a name and then its number; cell 4097 + n has the next row of a
 -- name with the same twelve low digits; and cell 8194 + b the first row of those that end in the digits b. A row 0 is none. Cell 4097 has how many are taken.
 -- Assumes nothing.
-use Rattle.std.specs.Prelude.{◌≡◌, cond, List, ℕ, zero, suc, ◌+◌, ◌*◌, ◌/◌, ◌%◌, ◌≤◌, ◌<◌, eqb, length, get_or}
+use Rattle.std.specs.Prelude.{◌≡◌, cond, List, ℕ, zero, suc, ◌+◌, ◌*◌, ◌/◌, ◌%◌, ◌≤◌, ◌<◌, eqb, length, get_or, Option, None, Some}
 use Rattle.names.specs.declared.Found.{Found}
 
 -- How many rows are taken.
@@ -28,6 +28,10 @@ row_from M t (suc k) n =
 unfoldable pub row_of : List ℕ → ℕ → ℕ
 unfolding row_from
 row_of M x = row_from M (x / 4096) (first_row M (x % 4096)) (first_row M (x % 4096))
+
+-- The row, where it has one.
+abbrev pub row_found : List ℕ → ℕ → Option ℕ
+row_found M x = cond (eqb (row_of M x) 0) None (Some (row_of M x))
 
 -- The number of a name.
 unfoldable pub number_under : List ℕ → ℕ → ℕ
@@ -58,7 +62,7 @@ pub record Empty (M : List ℕ) : Type 0 where
 
 -- What a search for a name finds.
 pub record Finds (M : List ℕ) (x : ℕ) (r : Found) : Type 0 where
-  pub row : r.row ≡ row_of M x
+  pub row : r.row ≡ row_found M x
   pub number : r.number ≡ number_under M x
 
 -- M' is M with a first row for the name x, which had none, and its number v there.

@@ -2,17 +2,14 @@
 -- Assumes nothing.
 use Rattle.std.specs.Prelude.{◌≡◌, Bool, List, ℕ, length}
 use Rattle.calls.specs.declared.Drive.{Drive}
-use Rattle.calls.specs.declared.Check.{Check}
-use Rattle.calls.specs.declared.Checked.{Checked}
-use Rattle.calls.specs.declared.Served.{Served}
+use Rattle.calls.specs.Types.{Check, Checked, Served}
 use Rattle.calls.specs.Answers.{check_answer, serving_answer}
 use Rattle.calls.specs.Results.{if_clear}
 use Rattle.sheets.specs.Forms.{Form}
 use Rattle.sheets.specs.Results.{leaf_form, piece_form}
 use Rattle.waiting.specs.declared.Order.{Order}
 use Rattle.waiting.specs.Layout.{taken_list}
-use Rattle.orders.specs.declared.Ordered.{Ordered}
-use Rattle.orders.specs.declared.Way.{Way}
+use Rattle.orders.specs.Types.{Ordering, Ordered, Way}
 use Rattle.orders.specs.Answers.{ordering_answer}
 use Rattle.orders.specs.Results.{carried_board, changed_by, changed_answer_by, board_by, list_by, board_if, list_if, served_by, served_answer_by, changed, changed_answer, changed_board, changed_list, served, served_answer, served_board, served_list, opened, opened_answer, opened_board, opened_list, loaded_as, loaded_answer_as, loaded_board_as, loaded_list_as}
 
@@ -36,6 +33,10 @@ LoadsPieces = LoadsAs piece_form
 abbrev pub Takes : Way → Drive → List ℕ → List ℕ → Order → Ordered → List ℕ → List ℕ → Type 0
 Takes k d B L o r E F =
     (r ≡ changed_by k d B L o) × (ordering_answer r.answer ≡ changed_answer_by k d B L o) × (E ≡ board_by k (carried_board d B o) B) × (F ≡ list_by k (taken_list L o) L)
+
+-- The same of the answer alone, beside the record as it was given.
+abbrev pub Accepts : Way → Drive → List ℕ → List ℕ → Order → Ordering → List ℕ → List ℕ → Type 0
+Accepts k d B L o a E F = Takes k d B L o (record { drive = d; answer = a }) E F
 
 abbrev pub Orders : Drive → List ℕ → List ℕ → Order → Ordered → List ℕ → List ℕ → Type 0
 Orders d B L o r E F = (r ≡ changed d B L o) × (ordering_answer r.answer ≡ changed_answer d B L o) × (E ≡ changed_board d B L o) × (F ≡ changed_list d B L o)

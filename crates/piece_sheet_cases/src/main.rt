@@ -2,388 +2,197 @@
 // leaves behind. The expected output was worked out from document 02's No. 9.
 #![tactic(auto)]
 
-ghost use Rattle.std.specs.Prelude.{IfOk, ◌≤◌, ◌<◌, ◌+◌};
+ghost use Rattle.std.specs.Prelude.{◌<◌};
 
-use calls::{Checked, Drive};
-use sheets::Saving;
+use calls::{Checked, Drive, Refusal, Returned};
 use std::io;
-use telling::answers::tell_checked;
-use telling::reading::{count_at, number_at, read_text, say_row, text_room};
-use telling::stores::{
-    fill, fill_bytes, least, mark, mark_entries, number_in, put_number, within, within_bytes,
-};
-use telling::{end_line, say, say_count, say_entry};
-use telling_orders::tell_saving;
+use telling::Row;
+use telling::answers::Told;
+use telling::reading::{Numbers, entry_of, read_text};
+use telling::stores::{mark, number_in, part, put_number, within};
 
 // Fifty blocks: one more than the longest sheet has.
 const BYTES: usize = 25600;
 
-// Makes the first n entries the names 1, 2 and so on, a piece each, and the others idle.
-fn make_board(board: &mut [u16; 4095], n: u16) {
-    let mut i: u16 = 0;
-    while i < 4095 {
-        board[i as usize] = if i < n { i + 1 } else { 0 };
-        i += 1;
+// A board whose first n entries are the names 1, 2 and so on, a piece each, and the others idle.
+fn board_of(n: u16) -> [u16; 4095] {
+    let mut board = [0; 4095];
+    for (entry, name) in board.iter_mut().zip(1..=n) {
+        *entry = name;
+    }
+    board
+}
+
+// Makes the sum of a block right: that of all its numbers is 0.
+fn seal(block: &mut [u8]) {
+    let sum = part(block, 0, 510)
+        .chunks_exact(2)
+        .fold(0u16, |sum, number| sum.wrapping_add(number_in(number, 0)));
+    put_number(block, 255, usize::from(sum.wrapping_neg()));
+}
+
+// Starts a block of pieces: its number, C and p.
+fn start(block: &mut [u8], number: u16, capacity: u16, position: u16) {
+    put_number(block, 0, usize::from(32768 | number));
+    put_number(block, 1, usize::from(capacity));
+    put_number(block, 2, usize::from(position));
+}
+
+// Writes entry j of a block: name, start, exponent of the size.
+fn enter(block: &mut [u8], j: usize, entry: [u16; 3])
+    requires { j < 84 }
+{
+    let [name, start, exponent] = entry;
+    put_number(block, 3 + 3 * j, usize::from(name));
+    put_number(block, 4 + 3 * j, usize::from(start));
+    put_number(block, 5 + 3 * j, usize::from(exponent));
+}
+
+// Makes a block with C = 90: n names of one leaf each, from leaf a on.
+fn make_block(block: &mut [u8], number: u16, position: u16, n: u16, a: u16) {
+    start(block, number, 90, position);
+    for j in 0..n.min(84) {
+        let leaf = a.wrapping_add(j);
+        enter(block, usize::from(j), [leaf.wrapping_add(1), leaf, 0]);
+    }
+    seal(block);
+}
+
+// The forms of a sheet: each has its reader, and is what the other is turned into.
+#[derive(Clone, Copy)]
+enum Form {
+    Leaves,
+    Pieces,
+}
+
+impl Form {
+    fn read(self, sheet: &[u8], board: &mut [u16]) -> Checked {
+        match self {
+            Form::Leaves => sheets::read(sheet, board),
+            Form::Pieces => sheets::read_pieces(sheet, board),
+        }
+    }
+
+    // Turns a sheet into the form.
+    fn turn(self, sheet: &[u8], output: &mut [u8]) -> Result<usize, Refusal> {
+        match self {
+            Form::Leaves => sheets::to_leaves(sheet, output),
+            Form::Pieces => sheets::to_pieces(sheet, output),
+        }
     }
 }
 
-// The sum of the first 255 numbers of block b.
-fn sum_block(sheet: &[u8; 25600], b: usize) -> usize
-    requires { b < 50 }
-    ensures { result < 65536 }
-{
-    let mut t: usize = 0;
-    let mut i: usize = 0;
-    while i < 255 {
-        t = (t + number_in(sheet, 256 * b + i)) % 65536;
-        i += 1;
-    }
-    t
-}
-
-// Makes the sum of block b right.
-fn seal(sheet: &mut [u8; 25600], b: usize)
-    requires { b < 50 }
-{
-    let t = sum_block(sheet, b);
-    put_number(sheet, 256 * b + 255, (65536 - t) % 65536);
-}
-
-// Starts block b: its number, C and p.
-fn start(sheet: &mut [u8; 25600], b: usize, c: usize, p: usize)
-    requires { b < 50 }
-{
-    put_number(sheet, 256 * b, 32768 + b);
-    put_number(sheet, 256 * b + 1, c);
-    put_number(sheet, 256 * b + 2, p);
-}
-
-// Writes entry j of block b: name, start, exponent of the size.
-fn enter(sheet: &mut [u8; 25600], b: usize, j: usize, x: usize, a: usize, l: usize)
-    requires { (b < 50) × (j < 84) }
-{
-    put_number(sheet, 256 * b + 3 + 3 * j, x);
-    put_number(sheet, 256 * b + 4 + 3 * j, a);
-    put_number(sheet, 256 * b + 5 + 3 * j, l);
-}
-
-// Enters n names of one leaf each to block b, from leaf a on.
-fn enter_names(sheet: &mut [u8; 25600], b: usize, n: usize, a: usize)
-    requires { (b < 50) × (a ≤ 65535) }
-{
-    let end = least(n, 84);
-    let mut j: usize = 0;
-    while j < end {
-        enter(sheet, b, j, a + j + 1, a + j, 0);
-        j += 1;
-    }
-}
-
-// Which of the two readers reads.
-const LEAVES: usize = 0;
-
-const PIECES: usize = 1;
-
-fn read_as(form: usize, sheet: &[u8], board: &mut [u16]) -> Checked {
-    if form == LEAVES {
-        return sheets::read(sheet, board);
-    }
-    sheets::read_pieces(sheet, board)
-}
-
-// Reads the first bytes of a sheet to the first entries of a board.
-fn read_part(
-    form: usize,
-    sheet: &[u8],
-    bytes: usize,
-    board: &mut [u16],
-    entries: usize,
-) -> Checked {
-    let m = within_bytes(bytes, sheet);
-    let n = within(entries, board);
-    read_as(form, &sheet[..m], &mut board[..n])
-}
-
-// Turns a sheet into the form.
-fn turn_into(form: usize, sheet: &[u8], output: &mut [u8]) -> Saving {
-    if form == LEAVES {
-        return sheets::to_leaves(sheet, output);
-    }
-    sheets::to_pieces(sheet, output)
-}
-
-// Turns the first bytes of a sheet into the form, with so much room in an output of 170s: the answer and the bytes, which it gives back.
+// Turns a sheet into the form, with so much room in an output of 170s: the answer and the bytes, which it gives back.
 fn show_turn(
     rt: &impl Print,
-    form: usize,
+    form: Form,
     sheet: &[u8],
-    bytes: usize,
     output: &mut [u8],
     room: usize,
 ) -> io::Result<usize> {
-    fill_bytes(output, 170);
-    let m = within_bytes(bytes, sheet);
-    let n = within_bytes(room, output);
-    tell_saving(rt, turn_into(form, &sheet[..m], &mut output[..n]))
+    output.fill(170);
+    let n = within(room, output);
+    let answer = form.turn(sheet, &mut output[..n]);
+    print!(rt; " {}", Told(answer))?;
+    Ok(answer.unwrap_or(0))
 }
 
-// Reads to a board that holds 60000 everywhere: the answer, C, p, and the mark of the board.
-fn show_read(
-    rt: &impl Print,
-    form: usize,
-    sheet: &[u8; 25600],
-    bytes: usize,
-    board: &mut [u16; 4095],
-    entries: usize,
-) -> io::Result<()> {
-    fill(board, 60000);
-    let drive = tell_checked(rt, read_part(form, sheet, bytes, board, entries))?;
-    say_entry(rt, drive.capacity)?;
-    say_entry(rt, drive.position)?;
-    say_count(rt, mark_entries(board))
+// Reads to the first entries of a board that holds 60000 everywhere: the answer, C, p, and the mark of the board.
+fn show_read(rt: &impl Print, form: Form, sheet: &[u8], entries: usize) -> io::Result<()> {
+    let mut board = [60000; 4095];
+    let n = within(entries, &board);
+    let Returned { drive, answer } = form.read(sheet, &mut board[..n]);
+    print!(rt; " {} {} {}", Told(answer), drive.capacity, drive.position)?;
+    print!(rt; " {}", mark(&board))
 }
 
 // A sheet of one block with two entries, read to 16 entries: a row is C, p, and name, start and exponent of each.
-fn run_entries(
-    rt: &impl Print,
-    text: &[u8],
-    at: usize,
-    board: &mut [u16; 4095],
-    sheet: &mut [u8; 25600],
-) -> io::Result<()>
-    requires { at ≤ 3000000 }
-{
-    fill_bytes(sheet, 0);
-    start(sheet, 0, count_at(text, at), count_at(text, at + 1));
-    enter_row(text, at + 2, sheet, 0);
-    enter_row(text, at + 5, sheet, 1);
-    seal(sheet, 0);
-    say_row(rt, text, at, 8)?;
-    show_read(rt, PIECES, sheet, 512, board, 16)?;
-    end_line(rt)
-}
-
-// Entry j of the first block: name, start and exponent at a place of the input.
-fn enter_row(text: &[u8], at: usize, sheet: &mut [u8; 25600], j: usize)
-    requires { (at ≤ 4000000) × (j < 84) }
-{
-    enter(
-        sheet,
-        0,
-        j,
-        count_at(text, at),
-        count_at(text, at + 1),
-        count_at(text, at + 2),
-    );
-}
-
-// Block b of a sheet with C = 90: n names of one leaf each, from leaf a on.
-fn make_block(sheet: &mut [u8; 25600], b: usize, p: usize, n: usize, a: usize)
-    requires { (b < 50) × (a ≤ 65535) }
-{
-    start(sheet, b, 90, p);
-    enter_names(sheet, b, n, a);
-    seal(sheet, b);
+fn run_entries(rt: &impl Print, row: [u64; 8], sheet: &mut [u8]) -> io::Result<()> {
+    let [capacity, position, x, a, l, y, b, m] = row.map(entry_of);
+    sheet.fill(0);
+    start(sheet, 0, capacity, position);
+    enter(sheet, 0, [x, a, l]);
+    enter(sheet, 1, [y, b, m]);
+    seal(sheet);
+    print!(rt; "{}", Row(&row))?;
+    show_read(rt, Form::Pieces, part(sheet, 0, 512), 16)?;
+    rt.println("")
 }
 
 // A sheet of two blocks: a row is how many names the first has and the second, p in each, and the bytes that are read.
-fn run_blocks(
-    rt: &impl Print,
-    text: &[u8],
-    at: usize,
-    board: &mut [u16; 4095],
-    sheet: &mut [u8; 25600],
-) -> io::Result<()>
-    requires { at ≤ 3000000 }
-{
-    let first = count_at(text, at);
-    fill_bytes(sheet, 0);
-    make_block(sheet, 0, count_at(text, at + 2), first, 0);
-    make_block(
-        sheet,
-        1,
-        count_at(text, at + 3),
-        count_at(text, at + 1),
-        first,
-    );
-    say_row(rt, text, at, 5)?;
-    show_read(rt, PIECES, sheet, count_at(text, at + 4), board, 4095)?;
-    end_line(rt)
+fn run_blocks(rt: &impl Print, row: [u64; 5], sheet: &mut [u8; BYTES]) -> io::Result<()> {
+    let [first, second, position, other, bytes] = row.map(entry_of);
+    sheet.fill(0);
+    make_block(&mut sheet[..512], 0, position, first, 0);
+    make_block(&mut sheet[512..1024], 1, other, second, first);
+    print!(rt; "{}", Row(&row))?;
+    show_read(rt, Form::Pieces, part(sheet, 0, usize::from(bytes)), 4095)?;
+    rt.println("")
 }
 
 // A board of C names of one leaf each, saved as pieces at p, to a sheet of 170s.
-fn save_names(n: u16, p: u16, board: &mut [u16; 4095], sheet: &mut [u8; 25600]) -> Saving {
-    make_board(board, n);
-    fill_bytes(sheet, 170);
-    let saved = sheets::save_pieces(Drive::new(n, p), board, sheet);
+fn save_names(capacity: u16, position: u16, sheet: &mut [u8]) -> Result<usize, Refusal> {
+    sheet.fill(170);
+    let saved = sheets::save_pieces(Drive::new(capacity, position), &board_of(capacity), sheet);
     saved.answer
 }
 
 // A row is C and p: saved, read by both readers, and turned into a sheet of leaves and back.
-fn run_trip(
-    rt: &impl Print,
-    text: &[u8],
-    at: usize,
-    board: &mut [u16; 4095],
-    sheet: &mut [u8; 25600],
-    other: &mut [u8; 25600],
-) -> io::Result<()>
-    requires { at ≤ 3000000 }
-{
-    say_row(rt, text, at, 2)?;
-    let answer = save_names(number_at(text, at), number_at(text, at + 1), board, sheet);
-    let bytes = tell_saving(rt, answer)?;
-    say_count(rt, mark(sheet))?;
-    show_read(rt, PIECES, sheet, bytes, board, 4095)?;
-    show_read(rt, LEAVES, sheet, bytes, board, 4095)?;
-    end_line(rt)?;
-    let there = show_turn(rt, LEAVES, sheet, bytes, other, BYTES)?;
-    say_count(rt, mark(other))?;
-    let back = show_turn(rt, PIECES, other, there, sheet, BYTES)?;
-    say_count(rt, back)?;
-    say_count(rt, mark(sheet))?;
-    show_read(rt, PIECES, other, there, board, 4095)?;
-    end_line(rt)
+fn run_trip(rt: &impl Print, row: [u64; 2], sheet: &mut [u8], other: &mut [u8]) -> io::Result<()> {
+    let [capacity, position] = row.map(entry_of);
+    let answer = save_names(capacity, position, sheet);
+    print!(rt; "{} {} {}", Row(&row), Told(answer), mark(sheet))?;
+    let saved = part(sheet, 0, answer.unwrap_or(0));
+    show_read(rt, Form::Pieces, saved, 4095)?;
+    show_read(rt, Form::Leaves, saved, 4095)?;
+    rt.println("")?;
+    let there = show_turn(rt, Form::Leaves, saved, other, BYTES)?;
+    print!(rt; " {}", mark(other))?;
+    let leaves = part(other, 0, there);
+    let back = show_turn(rt, Form::Pieces, leaves, sheet, BYTES)?;
+    print!(rt; " {back} {}", mark(sheet))?;
+    show_read(rt, Form::Pieces, leaves, 4095)?;
+    rt.println("")
 }
 
 // What the conversions refuse: a row is C, p, how many bytes of the sheet are turned into leaves, and how much room there is.
-fn run_turn(
-    rt: &impl Print,
-    text: &[u8],
-    at: usize,
-    board: &mut [u16; 4095],
-    sheet: &mut [u8; 25600],
-    other: &mut [u8; 25600],
-) -> io::Result<()>
-    requires { at ≤ 3000000 }
-{
-    save_names(number_at(text, at), number_at(text, at + 1), board, sheet);
-    say_row(rt, text, at, 4)?;
-    show_turn(
-        rt,
-        LEAVES,
-        sheet,
-        count_at(text, at + 2),
-        other,
-        count_at(text, at + 3),
-    )?;
-    say_count(rt, mark(other))?;
-    end_line(rt)
+fn run_turn(rt: &impl Print, row: [u64; 4], sheet: &mut [u8], other: &mut [u8]) -> io::Result<()> {
+    let [capacity, position, bytes, room] = row.map(entry_of);
+    let _ = save_names(capacity, position, sheet);
+    print!(rt; "{}", Row(&row))?;
+    let sheet = part(sheet, 0, usize::from(bytes));
+    show_turn(rt, Form::Leaves, sheet, other, usize::from(room))?;
+    println!(rt; " {}", mark(other))
 }
 
-// The kinds of rows.
-const ENTRIES: usize = 0;
-
-const BLOCKS: usize = 1;
-
-const TRIP: usize = 2;
-
-const TURN: usize = 3;
-
-// How many numbers a row has.
-fn width(kind: usize) -> usize
-    ensures { result ≤ 8 }
-{
-    match kind {
-        ENTRIES => 8,
-        BLOCKS => 5,
-        TRIP => 2,
-        _ => 4,
-    }
-}
-
-fn run_row(
-    rt: &impl Print,
-    kind: usize,
-    text: &[u8],
-    at: usize,
-    board: &mut [u16; 4095],
-    sheet: &mut [u8; 25600],
-    other: &mut [u8; 25600],
-) -> io::Result<()>
-    requires { at ≤ 3000000 }
-{
-    match kind {
-        ENTRIES => run_entries(rt, text, at, board, sheet),
-        BLOCKS => run_blocks(rt, text, at, board, sheet),
-        TRIP => run_trip(rt, text, at, board, sheet, other),
-        _ => run_turn(rt, text, at, board, sheet, other),
-    }
-}
-
-// The rows of one kind: how many there are, and then each. The place after them; `Err` just where a write failed, and then board and sheets are as the calls
-// before it left them.
-fn run_rows(
-    rt: &impl Print,
-    kind: usize,
-    text: &[u8],
-    at: usize,
-    board: &mut [u16; 4095],
-    sheet: &mut [u8; 25600],
-    other: &mut [u8; 25600],
-) -> io::Result<usize>
-    requires { at ≤ 1600000 }
-    ensures { IfOk result (λ end. end ≤ at + 530000) }
-{
-    let n = count_at(text, at);
-    let step = width(kind);
-    let mut next = at + 1;
-    let mut i: usize = 0;
-    while i < n {
-        run_row(rt, kind, text, next, board, sheet, other)?;
-        next += step;
-        i += 1;
-    }
-    Ok(next)
-}
-
-fn run(
-    rt: &impl Print,
-    text: &[u8],
-    board: &mut [u16; 4095],
-    sheet: &mut [u8; 25600],
-    other: &mut [u8; 25600],
-) -> io::Result<()> {
-    say(
-        rt,
-        b"one block, two entries: C, p, name, start, exponent, name, start, exponent; answer, C, p, mark of the board\n",
-    )?;
-    let blocks = run_rows(rt, ENTRIES, text, 0, board, sheet, other)?;
-    say(
-        rt,
-        b"two blocks: entries, entries, p, p, bytes; answer, C, p, mark of the board\n",
-    )?;
-    let trips = run_rows(rt, BLOCKS, text, blocks, board, sheet, other)?;
-    say(
-        rt,
-        b"saved as pieces: C, p; answer, bytes, mark; read as pieces, and as leaves: answer, C, p, mark of the board\n",
-    )?;
-    say(
-        rt,
-        b"turned into leaves: answer, bytes, mark; back: answer, bytes, bytes, mark; the leaves read as pieces\n",
-    )?;
-    say(
-        rt,
-        b"or a part of it turned into leaves: C, p, bytes, room; answer, bytes, mark\n",
-    )?;
-    let turns = run_rows(rt, TRIP, text, trips, board, sheet, other)?;
-    run_rows(rt, TURN, text, turns, board, sheet, other)?;
-    Ok(())
-}
-
-fn blank_board() -> [u16; 4095] {
-    [0u16; 4095]
-}
-
-fn blank_sheet() -> [u8; 25600] {
-    [0u8; 25600]
-}
-
+// The rows of each kind: how many there are, and then each.
 fn main(rt: HostRuntime) -> io::Result<()> {
-    let mut board = blank_board();
-    let mut sheet = blank_sheet();
-    let mut other = blank_sheet();
-    let mut text = text_room();
-    let n = read_text(&rt, &mut text)?;
-    run(&rt, &text[..n], &mut board, &mut sheet, &mut other)
+    let text = read_text(rt.alloc(), rt.reader())?;
+    let mut numbers = Numbers(&text);
+    let mut sheet = [0; BYTES];
+    let mut other = [0; BYTES];
+    println!(rt;
+        "one block, two entries: C, p, name, start, exponent, name, start, exponent; answer, C, p, mark of the board"
+    )?;
+    for _ in 0..numbers.entry() {
+        run_entries(&rt, numbers.row(), &mut sheet)?;
+    }
+    println!(rt; "two blocks: entries, entries, p, p, bytes; answer, C, p, mark of the board")?;
+    for _ in 0..numbers.entry() {
+        run_blocks(&rt, numbers.row(), &mut sheet)?;
+    }
+    println!(rt;
+        "saved as pieces: C, p; answer, bytes, mark; read as pieces, and as leaves: answer, C, p, mark of the board"
+    )?;
+    println!(rt;
+        "turned into leaves: answer, bytes, mark; back: answer, bytes, bytes, mark; the leaves read as pieces"
+    )?;
+    println!(rt; "or a part of it turned into leaves: C, p, bytes, room; answer, bytes, mark")?;
+    for _ in 0..numbers.entry() {
+        run_trip(&rt, numbers.row(), &mut sheet, &mut other)?;
+    }
+    for _ in 0..numbers.entry() {
+        run_turn(&rt, numbers.row(), &mut sheet, &mut other)?;
+    }
+    Ok(())
 }

@@ -3,14 +3,12 @@ use mathlib.Core.Path.{◌≡◌, refl, sym, ◌∙◌}
 use mathlib.Core.Bool.{true, false}
 use mathlib.Core.List.{List, [], ◌∷◌, ◌++◌}
 use Prim.Native.Nat.{ℕ, zero, suc, ◌+◌, ◌-◌, ◌*◌, ◌^◌, ◌≤◌, ◌<◌}
-use native.Mathlib.Nat.{add-zero, two-pow-succ}
-use native.Mathlib.Numerals.{add-one}
+use native.Mathlib.Nat.{two-pow-succ}
 use native.Mathlib.Omega.{arith}
 use native.Mathlib.Decide.{dec_lt}
 use lib.Dec.{eqb}
-use lib.ListN.{length, get_or, set, length-append}
+use lib.ListN.{length, get_or, length-append}
 use lib.Pow.{pow_pos}
-use lib.Seq.{sets}
 use borrow.Author.Tests.{lt-ltb, le-ltb, eq-eqb, ne_eqb}
 use Rattle.general.proofs.Laws.{by_bool, never, clash}
 use Rattle.pieces.specs.Board.{whole}
@@ -38,19 +36,6 @@ whole_counted C B x a l z n e h c = by_bool (whole C B x a l)
     let f : n ≡ z = c ∙ count_full B x a z (λ i p. (whole_elim C B x a l t (a + i) (omega arith) (omega arith)).1) in
     eq-eqb n z f ∙ sym t)
     (λ f. ne_eqb n z (λ q. clash (count_whole C B x a l z e (omega arith) (sym c ∙ q)) f) ∙ sym f)
-
--- ---- a run entered
-
-pub run_idle : (L : List ℕ) (x a l n : ℕ) → x ≡ 0 → n ≤ 3 * a → (n ≡ n + length (entry x a l)) × (n ≤ 3 * a + 3) × (L ≡ sets L n (entry x a l))
-run_idle L zero a l n e h = (sym (add-zero n), omega arith, refl)
-run_idle L (suc x) a l n e h = absurd (omega arith)
-
-pub run_entered : (L : List ℕ) (x a l n : ℕ) → (x ≡ 0 → ⊥) → n ≤ 3 * a
-    → (n + 3 ≡ n + length (entry x a l)) × (n + 3 ≤ 3 * a + 3) × (set (set (set L n x) (n + 1) a) (n + 2) l ≡ sets L n (entry x a l))
-run_entered L zero a l n e h = absurd (e refl)
-run_entered L (suc x) a l n e h =
-    let two : n + 2 ≡ suc (suc n) = omega arith in
-    (refl, omega arith, rw (two, add-one n) refl)
 
 -- ---- a block listed
 

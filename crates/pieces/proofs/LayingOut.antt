@@ -1,7 +1,7 @@
 -- Laying a board out afresh, as the code does it: the names that have a weight are listed, the heaviest weights have their turn first, and each stream is placed in
 -- its turn. Assumes nothing.
 use mathlib.Core.Path.{◌≡◌, refl, sym, ap, ◌∙◌, fun_ext}
-use mathlib.Core.Bool.{Bool, true, ◌&&◌, cond}
+use mathlib.Core.Bool.{Bool, true, cond}
 use mathlib.Core.List.{List, [], ◌∷◌, ◌++◌, append-nil}
 use Prim.Native.Nat.{ℕ, zero, suc, ◌+◌, ◌-◌, ◌≤◌, ◌<◌}
 use native.Mathlib.Numerals.{add-one}
@@ -9,8 +9,8 @@ use native.Mathlib.Omega.{arith}
 use native.Mathlib.Decide.{dec_lt, ℕ_discrete}
 use lib.Dec.{ltb, eqb}
 use lib.ListN.{length, get_or, set, take, drop, length-append, length-set, drop_of_length-le}
-use lib.Seq.{length-take-le, take-suc-set, append_snoc, drop-cons, get_or-take}
-use borrow.Author.Tests.{eq-eqb, ne_eqb, lt-ltb, le-ltb, ltb-true, ltb-false}
+use lib.Seq.{length-take-le, take-suc-set, append_snoc, drop-cons}
+use borrow.Author.Tests.{eq-eqb, ne_eqb, lt-ltb, le-ltb, ltb-true}
 use Rattle.general.proofs.Laws.{by_bool}
 use Rattle.names.specs.Table.{number_under}
 use Rattle.names.proofs.Laws.{number_large}
@@ -120,33 +120,10 @@ module _ (W : ℕ → ℕ) (L : List ℕ) where
     | no e ↦ rw (rank_empty (suc w) L (λ i l q. none i l (omega arith) (omega arith))) (ranks_skip w v (omega arith) (λ i l p q. none i l p (omega arith)))
   ]
 
-pub heaviest_next : (W : ℕ → ℕ) (N : List ℕ) (n w v : ℕ) → n ≤ length N → Heaviest W N n (suc w) v → ranks W (take n N) w ≡ ranks W (take n N) v
-heaviest_next W N n w v h s = ranks_skip W (take n N) w v (omega (arith, s.below)) (λ i l p q.
-    let k = length-take-le n N h in
-    let e = ap W (get_or-take n N i 0 (omega arith)) in
-    let m = s.most i (omega arith) in
+pub heaviest_next : (W : ℕ → ℕ) (N : List ℕ) (w v : ℕ) → Heaviest W N (length N) (suc w) v → ranks W N w ≡ ranks W N v
+heaviest_next W N w v s = ranks_skip W N w v (omega (arith, s.below)) (λ i l p q.
+    let m = s.most i l in
     omega (arith, m (omega arith)))
-
--- none looked at yet, and one more
-pub heaviest_none : (W : ℕ → ℕ) (N : List ℕ) (v : ℕ) → 0 < v → Heaviest W N 0 v 0
-heaviest_none W N v some = record { below = some; most = λ i h. absurd (omega arith) }
-
-pub heaviest_more : (W : ℕ → ℕ) (N : List ℕ) (n v r : ℕ) → Heaviest W N n v r
-    → Heaviest W N (n + 1) v (cond (ltb r (W (get_or N n 0)) && ltb (W (get_or N n 0)) v) (W (get_or N n 0)) r)
-heaviest_more W N n v r s = by_bool (ltb r (W (get_or N n 0)))
-    (λ t. by_bool (ltb (W (get_or N n 0)) v)
-    (λ u. rw (t, u) (more (W (get_or N n 0)) (ltb-true (W (get_or N n 0)) v u) (omega (arith, ltb-true r (W (get_or N n 0)) t)) (λ l. omega arith)))
-    (λ u. rw (t, u) (more r s.below (omega arith) (λ l. absurd (omega (arith, ltb-false (W (get_or N n 0)) v u))))))
-    (λ t. rw t (more r s.below (omega arith) (λ l. ltb-false r (W (get_or N n 0)) t)))
-  where
-    more : (q : ℕ) → q < v → r ≤ q → (W (get_or N n 0) < v → W (get_or N n 0) ≤ q) → Heaviest W N (n + 1) v q
-    more q b k own = record {
-      below = b;
-      most = λ i h l. elim (ℕ_discrete i n) [
-        | yes e ↦ rw e (own (rw e at l))
-        | no e ↦ omega (arith, s.most i (omega arith) l)
-      ];
-    }
 
 -- ---- a stream's turn
 
@@ -195,20 +172,17 @@ placeables_split C D (s ∷ ss) ts p =
     let r = placeables_split C (placed C D s.name s.weight) ss ts p.2 in
     ((p.0, p.1, r.0), r.1)
 
-module _ (C : ℕ) (W : ℕ → ℕ) (N : List ℕ) (n : ℕ) (D : List ℕ) where
-  abbrev L : List ℕ
-  L = take n N
-
+module _ (C : ℕ) (W : ℕ → ℕ) (L D : List ℕ) where
   pub weight_turn : (w : ℕ) → 0 < w → Placeables C D (ranks W L w) → Placeables C D (rank W w L)
   unfolding ranks
   weight_turn zero h p = absurd (omega arith)
   weight_turn (suc w) h p = (placeables_split C D (rank W (suc w) L) (ranks W L w) p).0
 
-  pub weight_next : (w v : ℕ) → 0 < w → n ≤ length N → Heaviest W N n w v → Placeables C D (ranks W L w)
+  pub weight_next : (w v : ℕ) → 0 < w → Heaviest W L (length L) w v → Placeables C D (ranks W L w)
       → Placeables C (all_placed C D (rank W w L)) (ranks W L v) × (all_placed C (all_placed C D (rank W w L)) (ranks W L v) ≡ all_placed C D (ranks W L w))
   unfolding ranks
-  weight_next zero v h l s p = absurd (omega arith)
-  weight_next (suc w) v h l s p = rw (← heaviest_next W N n w v l s) (
+  weight_next zero v h s p = absurd (omega arith)
+  weight_next (suc w) v h s p = rw (← heaviest_next W L w v s) (
     (placeables_split C D (rank W (suc w) L) (ranks W L w) p).1,
     sym (laid_append C D (rank W (suc w) L) (ranks W L w)),
   )

@@ -2,34 +2,28 @@
 use mathlib.Core.Path.{◌≡◌, refl, sym, ap, ◌∙◌, subst}
 use mathlib.Core.Bool.{Bool, true, false, ◌&&◌}
 use mathlib.Core.List.{List}
-use mathlib.Core.Logic.{⊎_elim}
 use Prim.Native.Nat.{ℕ, zero, suc, ◌+◌, ◌-◌, ◌^◌, ◌/◌, ◌%◌, ◌≤◌, ◌<◌}
-use native.Mathlib.Nat.{pow-suc, zero-add, div-eq_of_lt}
+use native.Mathlib.Nat.{pow-suc, zero-add}
 use native.Mathlib.Numerals.{add-one, sub-one}
 use native.Mathlib.Omega.{arith}
-use native.Mathlib.Decide.{dec_lt, ℕ_discrete}
+use native.Mathlib.Decide.{ℕ_discrete}
 use lib.Dec.{ltb, eqb}
-use lib.ListN.{get_or, set, replicate}
+use lib.ListN.{get_or, set}
 use borrow.Author.Tests.{eq-eqb, ne_eqb, ltb-true, eqb-true, eqb-false}
 use Rattle.general.proofs.Laws.{by_bool, and_left, and_right}
 use Rattle.pieces.specs.Board.{weight, pieces, whole}
-use Rattle.pieces.specs.Placing.{fill, first, fit, put, place, put_digit, Placeable}
-use Rattle.pieces.specs.Tidying.{copy, clear, twin}
-use Rattle.pieces.specs.Halving.{Apart, Roomy, Fitting, roomy, count_from}
+use Rattle.pieces.specs.Placing.{first, fit, put, place, put_digit, Placeable}
+use Rattle.pieces.specs.Tidying.{clear, twin}
+use Rattle.pieces.specs.Halving.{Roomy, Fitting, roomy, count_from}
 use Rattle.pieces.proofs.Blocks.{one_le, whole_intro}
 use Rattle.pieces.proofs.Weight.{weight_total}
 use Rattle.pieces.proofs.Adding.{placed_roomy}
 use Rattle.pieces.proofs.Literal.{good_elim}
-use Rattle.pieces.proofs.Tidied.{copy_out}
 use Rattle.pieces.proofs.Removed.{clear_beyond}
 
 pub pow_half : (l : ℕ) → (l ≡ 0 → ⊥) → 2 ^ l ≡ 2 ^ (l - 1) + 2 ^ (l - 1)
 pow_half zero p = absurd (p refl)
 pow_half (suc h) p = rw sub-one (omega (arith, pow-suc 2 h))
-
-pub fill_more : (B : List ℕ) (a i x : ℕ) {M : List ℕ} → M ≡ fill B a i x → set M (a + i) x ≡ fill B a (i + 1) x
-unfolding fill
-fill_more B a i x e = rw (add-one i, e) refl
 
 -- A leaf that no step has come to is as it was.
 clear_ahead : (B : List ℕ) (i x : ℕ) {M : List ℕ} → M ≡ clear B x i → get_or B i 0 ≡ get_or M i 0
@@ -42,12 +36,6 @@ clear_hit B i x e h = rw (add-one i, eq-eqb (get_or B i 0) x (clear_ahead B i x 
 pub clear_miss : (B : List ℕ) (i x : ℕ) {M : List ℕ} → M ≡ clear B x i → (get_or M i 0 ≡ x → ⊥) → M ≡ clear B x (i + 1)
 unfolding clear
 clear_miss B i x e h = rw (add-one i, ne_eqb (get_or B i 0) x (λ r. h (sym (clear_ahead B i x e) ∙ r)), e) refl
-
-pub copy_more : (B : List ℕ) (t u i n L : ℕ) {M : List ℕ} → Apart L t u n → i < n → M ≡ copy B t u i → set M (u + i) (get_or M (t + i) 0) ≡ copy B t u (i + 1)
-unfolding copy
-copy_more B t u i n L w h e =
-    let g : get_or (copy B t u i) (t + i) 0 ≡ get_or B (t + i) 0 = copy_out B t u i (t + i) (λ p q. ⊎_elim (λ r. omega arith) (λ r. omega arith) w.apart) in
-    rw (add-one i, e, g) refl
 
 pub first_next : (p : ℕ → Bool) (e n : ℕ) → e < n → p e ≡ false → first p e (n - e) ≡ first p (e + 1) (n - (e + 1))
 unfolding first
@@ -103,22 +91,9 @@ placeable_roomy C B x w p = placed_roomy C B x w p.small p.long p.named (good_el
     (sym (weight_total C B x (omega (arith, p.small))) ∙ p.absent)
     (omega (arith, p.small, p.room, weight_total C B 0 (omega (arith, p.small))))
 
--- A start with bit e set is at least 2^e.
-pub odd_start : (a e : ℕ) → (a / 2 ^ e % 2 ≡ 0 → ⊥) → 2 ^ e ≤ a
-odd_start a e n =
-    elim (dec_lt a (2 ^ e)) [
-      | yes h ↦ absurd (n (rw (div-eq_of_lt h) refl))
-      | no h ↦ omega arith
-    ]
-
 pub twin_le : (a e : ℕ) → twin a e ≤ a + 2 ^ e
 unfolding twin
 twin_le a e = by_bool (eqb (a / 2 ^ e % 2) 0) (λ t. rw t (omega arith)) (λ f. rw f (omega arith))
-
-pub replicate_at : (n x i : ℕ) → i < n → get_or (replicate n x) i 0 ≡ x
-replicate_at zero x i h = absurd (omega arith)
-replicate_at (suc n) x zero h = refl
-replicate_at (suc n) x (suc i) h = replicate_at n x i (omega arith)
 
 -- ---- a block of leaves counted
 

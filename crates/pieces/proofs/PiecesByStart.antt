@@ -176,8 +176,3 @@ module _ (C : ℕ) (B : List ℕ) where
         count = omega (arith, left.count, ap length w.2, length-append one w.0);
         list = sets_append L n one w.0 ∙ ap (λ (R : List ℕ). sets L n R) (sym w.2) ∙ left.list;
       })
-
-  pub left_done : (a n : ℕ) (L T : List ℕ) (m : ℕ) → C ≤ a → Left a n L T m → (n ≡ m) × (L ≡ T)
-  left_done a n L T m h left =
-      let e = walk_done left.walk h in
-      (omega (arith, left.count, ap length e), ap (λ (R : List ℕ). sets L n R) (sym e) ∙ left.list)

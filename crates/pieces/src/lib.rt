@@ -1,8 +1,10 @@
 // Pieces of a slot board: the test for a good board, the search for idle pieces, placing and tidying, laying out afresh.
 // A board is a lent slice of leaves of which the first c count. Searches halve the block of 2^12 leaves that holds every board.
+// The two stay two parameters: `weigh`, `good` and `admit` are public calls whose clauses speak of a board and of C, and what is written is said of the whole
+// slice, so that the entries beyond are as they were.
 #![tactic(auto)]
 
-ghost use Rattle.std.specs.Prelude.{◌≡◌, true, ◌+◌, ◌^◌, ◌≤◌, ◌<◌, get_or, length};
+ghost use Rattle.std.specs.Prelude.{◌≡◌, true, ◌+◌, ◌^◌, ◌≤◌, get_or, length};
 ghost use Rattle.names.specs.Table.{Empty};
 ghost use Rattle.pieces.specs.Board as boards;
 ghost use Rattle.pieces.specs.Placing as placing;
@@ -17,7 +19,7 @@ mod placing;
 mod tidying;
 
 use crate::damage::scan;
-use crate::laying::{list_names, no_names, place_all};
+use crate::laying::{list_names, place_all};
 use crate::placing::place;
 use crate::tidying::{clear, tidy};
 
@@ -35,12 +37,10 @@ fn count(board: &[u16], a: usize, size: usize, x: u16) -> usize
     ensures { result ≡ halving.count_from board.now x a size }
 {
     let mut n: u16 = 0;
-    let mut i: usize = 0;
-    while i < size {
-        if board[a + i] == x {
+    for leaf in &board[a..a + size] {
+        if *leaf == x {
             n += 1;
         }
-        i += 1;
     }
     n as usize
 }
@@ -63,10 +63,7 @@ fn is_run(board: &[u16], c: usize, a: usize, l: usize) -> bool
         return false;
     }
     let x = board[a];
-    if board[a + size - 1] != x {
-        return false;
-    }
-    count(board, a, size, x) == size
+    board[a + size - 1] == x && count(board, a, size, x) == size
 }
 
 // Whether a search counts a block's idle leaves before it halves it: one of at most 256 leaves that lies on the board. Larger blocks are
@@ -75,13 +72,10 @@ fn countable(c: usize, a: usize, l: usize) -> bool
     requires { (l ≤ 12) × (a + 2 ^ l ≤ 4096) }
     ensures { result ≡ true → a + 2 ^ l ≤ c }
 {
-    if l <= 8 {
-        return a + size_of(l) <= c;
-    }
-    false
+    l <= 8 && a + size_of(l) <= c
 }
 
-// What a count of a block's idle leaves tells: that all its leaves are idle, that none is, or neither. Where they are not counted it is neither.
+// What a count of idle leaves tells of a block: that all its leaves are idle, that none is, or neither.
 #[derive(Clone, Copy)]
 enum Idle {
     All,
@@ -89,7 +83,7 @@ enum Idle {
     Neither,
 }
 
-// What a count of a block's idle leaves tells of it.
+// Counts the idle leaves of a block. Where it is not countable, the answer is neither.
 fn idle_leaves(board: &[u16], c: usize, a: usize, l: usize) -> Idle
     requires { halving.Block c (length board.now) a l }
     ensures { halving.Told c board.now a l result }
@@ -131,31 +125,26 @@ pub fn fill(board: &mut [u16], a: usize, size: usize, name: u16)
     requires { (a + size ≤ length board.old) × (a + size ≤ 4096) }
     ensures { board.new ≡ placing.fill board.old a size name }
 {
-    let mut i: usize = 0;
-    while i < size {
-        board[a + i] = name;
-        i += 1;
-    }
+    board[a..a + size].fill(name);
 }
 
-// What became of a weight: placed, with the idle leaves left; or more than there is room for, with the idle leaves there are.
-#[derive(Clone, Copy)]
-pub enum Admission {
-    Placed(usize),
-    Room(usize),
+// There is no room for a weight: the idle leaves that there are.
+#[derive(Clone, Copy, Debug, PartialEq, Eq)]
+pub struct NoRoom {
+    pub idle: usize,
 }
 
-// Places a weight where it does not exceed the idle leaves. They are counted once: what is left follows from that count.
-pub fn admit(board: &mut [u16], c: usize, name: u16, weight: usize) -> Admission
+// Places a weight where it does not exceed the idle leaves, and gives the idle leaves left. They are counted once: what is left follows from that count.
+pub fn admit(board: &mut [u16], c: usize, name: u16, weight: usize) -> Result<usize, NoRoom>
     requires { placing.Admissible c board.old name }
     ensures { (result ≡ placing.admission c board.old name weight) × (board.new ≡ placing.admitted c board.old name weight) }
 {
     let idle = weigh(board, c, 0);
     if idle < weight {
-        return Admission::Room(idle);
+        return Err(NoRoom { idle });
     }
     place(board, c, name, weight);
-    Admission::Placed(idle - weight)
+    Ok(idle - weight)
 }
 
 // Makes all leaves of a name idle, and tidies.
@@ -175,8 +164,8 @@ pub fn lay_out(board: &mut [u16], c: usize)
 {
     let mut sizes = names::empty();
     weights(board, c, &mut sizes);
-    let mut names = no_names();
+    let mut names = names::zeros::<4095>();
     let n = list_names(&sizes, &mut names);
     fill(board, 0, c, 0);
-    place_all(board, c, &sizes, &names, n);
+    place_all(board, c, &sizes, &names[..n]);
 }

@@ -13,10 +13,7 @@ fn is_lower(board: &[u16], c: usize, a: usize, l: usize) -> bool
     ensures { result ≡ (eqb (a % 2 ^ suc l) 0 && boards.whole c board.now (get_or board.now a 0) (a + 2 ^ l) l) }
 {
     let size = size_of(l);
-    if a % (size + size) != 0 {
-        return false;
-    }
-    if c < a + size + size {
+    if a % (size + size) != 0 || c < a + size + size {
         return false;
     }
     count(board, a + size, size, board[a]) == size
@@ -27,21 +24,16 @@ fn exponent_at(board: &[u16], c: usize, a: usize) -> usize
     requires { (c ≤ length board.now) × (c ≤ 4095) × (a < c) }
     ensures { halving.Largest c board.now a result × (result < 12) }
 {
-    if c <= a + 1 {
+    if c <= a + 1 || board[a + 1] != board[a] {
         return 0;
     }
-    if board[a + 1] != board[a] {
-        return 0;
-    }
-    let mut l: usize = 0;
-    while l < 12 {
-        if is_lower(board, c, a, l) {
-            l += 1;
-        } else {
+    // No `find`: its closure would have to prove the leaf and the exponent in range again.
+    for l in 0..12 {
+        if !is_lower(board, c, a, l) {
             return l;
         }
     }
-    l
+    12
 }
 
 // Enters a run of a name at the number n of a list, unless it is idle; where the next is entered.
@@ -58,8 +50,9 @@ fn list_run(x: u16, a: usize, l: usize, list: &mut [u16], n: usize) -> usize
     n + 3
 }
 
-// Lists the pieces that are not idle, by their starts, in three numbers each: name, start, exponent of the size; how many numbers these are. A piece
-// is the largest run of one name from its start, and the next piece starts where it ends.
+// Lists the pieces that are not idle, by their starts, in three numbers each: name, start, exponent of the size; how many numbers these are. There is no
+// heap: the list is lent, and its length returned. A piece
+// is the largest run of one name from its start, and the next piece starts where it ends: a walk by pieces, so no `for`.
 pub fn list_pieces(board: &[u16], c: usize, list: &mut [u16]) -> usize
     requires { (c ≤ length board.now) × (c ≤ 4095) × (3 * c ≤ length list.old) }
     ensures { (result ≡ length (listing.named_pieces c board.now)) × (result ≤ 12288) × (list.new ≡ sets list.old 0 (listing.named_pieces c board.now)) }

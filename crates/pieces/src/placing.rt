@@ -5,134 +5,98 @@ ghost use Rattle.pieces.specs.Halving as halving;
 
 use crate::{Idle, fill, idle_leaves, size_of};
 
-// Where a search finds an idle piece: nowhere, or by its exponent and start.
+// An idle piece that a search finds, by its exponent and start.
 #[derive(Clone, Copy)]
-enum Spot {
-    Nowhere,
-    At { exponent: usize, start: usize },
+struct Spot {
+    exponent: usize,
+    start: usize,
 }
 
 // Whether a block of exponent h is idle, by what was found in it.
-fn is_whole(s: Spot, h: usize) -> bool
+fn is_whole(s: Option<Spot>, h: usize) -> bool
     ensures { result ≡ halving.is_whole s h }
 {
-    match s {
-        Spot::Nowhere => false,
-        Spot::At { exponent, start: _ } => exponent == h,
-    }
+    s.is_some_and(|p| p.exponent == h)
 }
 
 // Whether the left half, of exponent h, is enough: it is not idle, and it has a piece of just the right size, or only both halves together could
 // be large enough.
-fn is_enough(f: Spot, h: usize, n: usize) -> bool
+fn is_enough(f: Option<Spot>, h: usize, n: usize) -> bool
     ensures { result ≡ halving.is_enough f h n }
 {
     match f {
-        Spot::Nowhere => h < n,
-        Spot::At { exponent, start: _ } => {
-            if exponent == h {
-                return false;
-            }
-            if exponent == n {
-                return true;
-            }
-            h < n
-        }
+        None => h < n,
+        Some(p) => p.exponent != h && (p.exponent == n || h < n),
     }
 }
 
 // The piece, where it is large enough: a half that is idle but too small counts for nothing.
-fn large_enough(s: Spot, n: usize) -> Spot
+fn large_enough(s: Option<Spot>, n: usize) -> Option<Spot>
     ensures { result ≡ halving.large_enough s n }
 {
-    match s {
-        Spot::Nowhere => Spot::Nowhere,
-        Spot::At { exponent, start } => {
-            if exponent < n {
-                return Spot::Nowhere;
-            }
-            Spot::At { exponent, start }
-        }
-    }
+    s.filter(|p| n <= p.exponent)
 }
 
-// The smaller of two pieces, the left one where they are equal. It is made anew: a copy of the whole enum takes longer.
-fn smaller(f: Spot, g: Spot) -> Spot
+// The smaller of two pieces, the left one where they are equal.
+fn smaller(f: Option<Spot>, g: Option<Spot>) -> Option<Spot>
     ensures { result ≡ halving.smaller f g }
 {
-    match f {
-        Spot::Nowhere => g,
-        Spot::At { exponent, start } => match g {
-            Spot::Nowhere => Spot::At { exponent, start },
-            Spot::At {
-                exponent: other,
-                start: there,
-            } => {
-                if other < exponent {
-                    return Spot::At {
-                        exponent: other,
-                        start: there,
-                    };
-                }
-                Spot::At { exponent, start }
-            }
-        },
+    match (f, g) {
+        (Some(p), Some(q)) => Some(if q.exponent < p.exponent { q } else { p }),
+        (None, _) => g,
+        (_, None) => f,
     }
 }
 
 // What a block holds by what its halves hold, of exponent h, the left one at a.
-fn join(f: Spot, g: Spot, a: usize, h: usize, n: usize) -> Spot
+fn join(f: Option<Spot>, g: Option<Spot>, a: usize, h: usize, n: usize) -> Option<Spot>
     requires { h < 12 }
     ensures { result ≡ halving.joined f g a h n }
 {
-    if is_whole(f, h) {
-        if is_whole(g, h) {
-            return Spot::At {
-                exponent: h + 1,
-                start: a,
-            };
-        }
+    if is_whole(f, h) && is_whole(g, h) {
+        return Some(Spot {
+            exponent: h + 1,
+            start: a,
+        });
     }
     smaller(large_enough(f, n), large_enough(g, n))
 }
 
 // The leaf at a, where it is idle.
-fn seek_leaf(board: &[u16], c: usize, a: usize) -> Spot
+fn seek_leaf(board: &[u16], c: usize, a: usize) -> Option<Spot>
     requires { halving.Block c (length board.now) a 0 }
     ensures { (n : ℕ) → halving.Spotted c board.now n a 0 result }
 {
-    if a < c {
-        if board[a] == 0 {
-            return Spot::At {
-                exponent: 0,
-                start: a,
-            };
-        }
+    if a < c && board[a] == 0 {
+        return Some(Spot {
+            exponent: 0,
+            start: a,
+        });
     }
-    Spot::Nowhere
+    None
 }
 
 // The smallest idle piece of exponent n or more in the block of exponent l at a; or the block itself, where it is idle.
 // A block without idle leaves, or of nothing else, is told by its count and not halved.
-fn seek(board: &[u16], c: usize, a: usize, l: usize, n: usize) -> Spot
+fn seek(board: &[u16], c: usize, a: usize, l: usize, n: usize) -> Option<Spot>
     requires { halving.Block c (length board.now) a l }
     ensures { halving.Spotted c board.now n a l result }
 {
     if c <= a {
-        return Spot::Nowhere;
+        return None;
     }
     if l == 0 {
         return seek_leaf(board, c, a);
     }
     match idle_leaves(board, c, a, l) {
         Idle::None => {
-            return Spot::Nowhere;
+            return None;
         }
         Idle::All => {
-            return Spot::At {
+            return Some(Spot {
                 exponent: l,
                 start: a,
-            };
+            });
         }
         Idle::Neither => {}
     }
@@ -150,11 +114,8 @@ fn place_power(board: &mut [u16], c: usize, n: usize, name: u16)
     requires { halving.Fitting c board.old n }
     ensures { board.new ≡ placing.put c board.old name n }
 {
-    match seek(board, c, 0, 12, n) {
-        Spot::Nowhere => {}
-        Spot::At { exponent: _, start } => {
-            fill(board, start, size_of(n), name);
-        }
+    if let Some(p) = seek(board, c, 0, 12, n) {
+        fill(board, p.start, size_of(n), name);
     }
 }
 
@@ -173,9 +134,7 @@ pub fn place(board: &mut [u16], c: usize, name: u16, weight: usize)
     requires { placing.Placeable c board.old name weight }
     ensures { board.new ≡ placing.placed c board.old name weight }
 {
-    let mut n: usize = 12;
-    while 0 < n {
-        n -= 1;
+    for n in (0..12).rev() {
         place_digit(board, c, n, name, weight);
     }
 }

@@ -1,69 +1,67 @@
 // Removing a name, and tidying until no size has two idle pieces.
-ghost use Rattle.std.specs.Prelude.{◌≡◌, List, ℕ, ◌≤◌, ◌<◌, length};
+ghost use Rattle.std.specs.Prelude.{◌≡◌, List, ◌≤◌, ◌<◌, length};
 ghost use Rattle.pieces.specs.Tidying as tidying;
+ghost use Rattle.pieces.specs.declared.tidying.Starts.{Starts};
 ghost use Rattle.pieces.specs.Halving as halving;
 
 use crate::{Idle, fill, idle_leaves, size_of};
 
-// What stands for no start: a board has less than 4,096 leaves.
-const NO_START: usize = 4096;
+// The two lowest starts of the idle pieces of one exponent that are entered, the lowest first.
+#[derive(Clone, Copy)]
+struct Starts {
+    first: Option<usize>,
+    second: Option<usize>,
+}
 
-// Makes all leaves of a name idle.
+// Makes all leaves of a name idle. By index: after writes through `iter_mut` of a part of a slice nothing is known of the leaves.
 pub fn clear(board: &mut [u16], c: usize, name: u16)
     requires { c ≤ length board.old }
     ensures { board.new ≡ tidying.clear board.old name c }
 {
-    let mut i: usize = 0;
-    while i < c {
+    for i in 0..c {
         if board[i] == name {
             board[i] = 0;
         }
-        i += 1;
     }
 }
 
-// Enters an idle piece of exponent h before those entered so far: place h has the lowest start of the exponent, place 12 + h the next.
-fn enter(starts: &mut [usize], h: usize, s: usize)
-    requires { (h < 12) × (length starts.old ≡ 24) }
+// Enters an idle piece of exponent h before those entered so far.
+fn enter(starts: &mut [Starts], h: usize, s: usize)
+    requires { (h < 12) × (length starts.old ≡ 12) }
     ensures { starts.new ≡ halving.entered starts.old h s }
 {
-    starts[12 + h] = starts[h];
-    starts[h] = s;
+    starts[h] = Starts {
+        first: Some(s),
+        second: starts[h].first,
+    };
 }
 
 // Whether a block is idle, by its halves at a and m: one that is idle is a piece, and is entered, where the block is not idle.
-fn meet_idle(f: bool, g: bool, a: usize, m: usize, h: usize, starts: &mut [usize]) -> bool
-    requires { (h < 12) × (length starts.old ≡ 24) }
+fn meet_idle(f: bool, g: bool, a: usize, m: usize, h: usize, starts: &mut [Starts]) -> bool
+    requires { (h < 12) × (length starts.old ≡ 12) }
     ensures { halving.MetIdle f g a m h starts.old starts.new result }
 {
-    if f {
-        if g {
-            return true;
-        }
+    if f && !g {
         enter(starts, h, a);
-        return false;
     }
-    if g {
+    if g && !f {
         enter(starts, h, m);
     }
-    false
+    f && g
 }
 
 // Whether a leaf is idle.
 fn is_idle_leaf(board: &[u16], c: usize, a: usize) -> bool
     requires { halving.Block c (length board.now) a 0 }
-    ensures { (S : List ℕ) → halving.Listed c board.now a 0 S S result }
+    ensures { (S : List Starts) → halving.Listed c board.now a 0 S S result }
 {
-    if a < c {
-        return board[a] == 0;
-    }
-    false
+    a < c && board[a] == 0
 }
 
 // Whether a block is idle; the idle pieces inside it are entered, from the highest start to the lowest.
 // A block without idle leaves, or of nothing else, is told by its count and not halved.
-fn list_idle(board: &[u16], c: usize, a: usize, l: usize, starts: &mut [usize]) -> bool
-    requires { halving.Block c (length board.now) a l × (length starts.old ≡ 24) }
+fn list_idle(board: &[u16], c: usize, a: usize, l: usize, starts: &mut [Starts]) -> bool
+    requires { halving.Block c (length board.now) a l × (length starts.old ≡ 12) }
     ensures { halving.Listed c board.now a l starts.old starts.new result }
 {
     if c <= a {
@@ -88,42 +86,51 @@ fn list_idle(board: &[u16], c: usize, a: usize, l: usize, starts: &mut [usize]) 
     meet_idle(f, g, a, m, h, starts)
 }
 
-// Two idle pieces of one size, by its exponent and their starts; or that no size has two.
+// Two idle pieces of one size, by its exponent and their starts.
 #[derive(Clone, Copy)]
-enum Pair {
-    Unpaired,
-    Two {
-        exponent: usize,
-        first: usize,
-        second: usize,
-    },
+struct Pair {
+    exponent: usize,
+    first: usize,
+    second: usize,
+}
+
+// The pair of an exponent, where two starts of it are entered.
+fn pair_of(exponent: usize, first: Option<usize>, second: Option<usize>) -> Option<Pair>
+    ensures { result ≡ halving.pair_of exponent first second }
+{
+    match (first, second) {
+        (Some(first), Some(second)) => Some(Pair {
+            exponent,
+            first,
+            second,
+        }),
+        _ => None,
+    }
 }
 
 // The smallest exponent of which two starts are entered, with them.
-fn smallest_pair(starts: &[usize]) -> Pair
-    requires { length starts.now ≡ 24 }
+fn smallest_pair(starts: &[Starts]) -> Option<Pair>
+    requires { length starts.now ≡ 12 }
     ensures { result ≡ halving.smallest_pair starts.now }
 {
-    let mut e: usize = 0;
-    while e < 12 {
-        if starts[12 + e] != NO_START {
-            return Pair::Two {
-                exponent: e,
-                first: starts[e],
-                second: starts[12 + e],
-            };
+    // `find_map` over the same was tried: that its answer is the smallest did not prove.
+    for (exponent, s) in starts.iter().enumerate() {
+        if let Some(pair) = pair_of(exponent, s.first, s.second) {
+            return Some(pair);
         }
-        e += 1;
     }
-    Pair::Unpaired
+    None
 }
 
 // The pair that tidying takes next: of the smallest size that has two, the two with the lowest starts. One search lists them.
-fn find_pair(board: &[u16], c: usize) -> Pair
+fn find_pair(board: &[u16], c: usize) -> Option<Pair>
     requires { (c ≤ length board.now) × (c ≤ 4095) }
     ensures { halving.Paired c board.now result }
 {
-    let mut starts = [NO_START; 24];
+    let mut starts = [Starts {
+        first: None,
+        second: None,
+    }; 12];
     list_idle(board, c, 0, 12, &mut starts);
     smallest_pair(&starts)
 }
@@ -144,11 +151,7 @@ fn copy_run(board: &mut [u16], from: usize, to: usize, size: usize)
     requires { halving.Apart (length board.old) from to size }
     ensures { board.new ≡ tidying.copy board.old from to size }
 {
-    let mut i: usize = 0;
-    while i < size {
-        board[to + i] = board[from + i];
-        i += 1;
-    }
+    board.copy_within(from..from + size, to);
 }
 
 // Moves a run; its old leaves become idle.
@@ -161,16 +164,16 @@ fn move_run(board: &mut [u16], from: usize, to: usize, size: usize)
 }
 
 // Joins the second of a pair with its twin, whose leaves move to the first; where the second is a root, the first with its twin.
-fn join_pair(board: &mut [u16], c: usize, e: usize, u: usize, v: usize)
-    requires { (c ≤ length board.old) × (c ≤ 4095) × halving.Lowest c board.old e u v }
-    ensures { board.new ≡ tidying.join c board.old e u v }
+fn join_pair(board: &mut [u16], c: usize, p: Pair)
+    requires { (c ≤ length board.old) × (c ≤ 4095) × halving.Lowest c board.old p.exponent p.first p.second }
+    ensures { board.new ≡ tidying.join c board.old p.exponent p.first p.second }
 {
-    let z = size_of(e);
-    let t = twin(v, e);
+    let z = size_of(p.exponent);
+    let t = twin(p.second, p.exponent);
     if t + z <= c {
-        move_run(board, t, u, z);
+        move_run(board, t, p.first, z);
     } else {
-        move_run(board, twin(u, e), v, z);
+        move_run(board, twin(p.first, p.exponent), p.second, z);
     }
 }
 
@@ -179,20 +182,12 @@ pub fn tidy(board: &mut [u16], c: usize)
     requires { (c ≤ length board.old) × (c ≤ 4095) }
     ensures { board.new ≡ tidying.tidied c board.old }
 {
-    let mut steps: usize = 0;
-    while steps < c {
+    for _step in 0..c {
         match find_pair(board, c) {
-            Pair::Unpaired => {
+            None => {
                 return;
             }
-            Pair::Two {
-                exponent,
-                first,
-                second,
-            } => {
-                join_pair(board, c, exponent, first, second);
-            }
+            Some(pair) => join_pair(board, c, pair),
         }
-        steps += 1;
     }
 }

@@ -22,8 +22,8 @@ fn six(i: usize) -> usize
     three(i) * 8 + three(i / 8)
 }
 
-// RB(i, j): the j lowest binary digits of i, reversed. They are the highest j of the 12 lowest reversed.
-fn reversed(i: usize, j: usize) -> usize
+// RB(i, j): the j lowest binary digits of i, reversed; j is at most 11. They are the highest j of the 12 lowest reversed.
+pub fn reversed(i: usize, j: usize) -> usize
     requires { j ≤ 11 }
     ensures { result ≡ rb i j }
 {
@@ -86,7 +86,7 @@ fn position_after(k: usize, p: usize) -> usize
 }
 
 // One slot: the leaf served, how many terms were passed over (0 or 1), and the position after it.
-#[derive(Clone, Copy)]
+#[derive(Clone, Copy, Debug, PartialEq, Eq)]
 pub struct Slot {
     pub leaf: usize,
     pub passed: usize,

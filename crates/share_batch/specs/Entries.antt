@@ -4,7 +4,7 @@
 -- Assumes nothing.
 use Rattle.std.specs.Prelude.{cond, List, [], ◌∷◌, ℕ, eqb}
 use Rattle.calls.specs.declared.Drive.{Drive}
-use Rattle.orders.specs.declared.Ordered.{Ordered}
+use Rattle.orders.specs.Types.{Ordered}
 use Rattle.orders.specs.Answers.{ordering_answer}
 use Rattle.orders.specs.Results.{add_order, remove_order}
 use Rattle.shares.specs.States.{BoardTables}

@@ -8,13 +8,17 @@ ghost use Rattle.share_batch.specs.Entries.{ordered, ordered_state, ordered_list
 ghost use Rattle.share_batch.specs.Promises as promises;
 
 use batch::{Carried, Entry};
-use calls::{Drive, Refusal};
-use orders::{Ordered, Ordering};
+use calls::{Drive, Refusal, Returned};
+use orders::{Declined, Ordered};
+use waiting::Order;
 
 // The kind of an over-allocated add.
-pub const OVER: u16 = 3;
+pub const OVER: u16 = Order::OVER;
 
-// The single call that an entry asks for. A kind that is none is refused before anything is looked at.
+// The single call that an entry asks for. A kind that is none is refused before anything is looked at. It is lent the slices apart, as C
+// lends them to each single call. It and the next are not one function with those of `batch`: other slices are lent and another kind is known, so that one function
+// over both would need a trait of three calls for two uses.
+#[tactic(auto, unfolding(crate::specs::Entries::ordered, crate::specs::Entries::ordered_state, crate::specs::Entries::ordered_list))]
 fn order(
     own: Drive,
     other: Drive,
@@ -29,22 +33,19 @@ fn order(
 {
     let name = entry.name;
     let w = entry.weight;
-    if entry.kind == Entry::ADD {
-        return shares::add(own, other, board, list, rates, owed, owed_other, name, w);
-    }
-    if entry.kind == Entry::REMOVE {
-        return shares::remove(own, other, board, list, rates, owed, owed_other, name);
-    }
-    if entry.kind == OVER {
-        return shares::over(own, other, board, list, rates, owed, owed_other, name, w);
-    }
-    Ordered {
-        drive: own,
-        answer: Ordering::Refused(Refusal::Weight),
+    match entry.kind {
+        Entry::ADD => shares::add(own, other, board, list, rates, owed, owed_other, name, w),
+        Entry::REMOVE => shares::remove(own, other, board, list, rates, owed, owed_other, name),
+        OVER => shares::over(own, other, board, list, rates, owed, owed_other, name, w),
+        _ => Returned {
+            drive: own,
+            answer: Err(Declined::Refused(Refusal::Weight)),
+        },
     }
 }
 
 // Carries out one entry.
+#[tactic(auto, unfolding(crate::specs::Entries::carried))]
 pub fn carry_entry(
     own: Drive,
     other: Drive,
@@ -58,10 +59,8 @@ pub fn carry_entry(
     ensures { promises.Carries own other (lent board.old rates.old owed.old owed_other.old) list.old entry result (lent board.new rates.new owed.new owed_other.new) list.new }
 {
     let ordered = order(own, other, board, list, rates, owed, owed_other, entry);
-    let drive = ordered.drive;
-    let answer = ordered.answer;
     Carried {
-        drive,
-        entry: batch::note(entry, answer),
+        drive: ordered.drive,
+        entry: batch::note(entry, ordered.answer),
     }
 }

@@ -11,8 +11,8 @@ use Rattle.pieces.specs.Fresh.{fresh}
 use Rattle.tables.proofs.Laws.{Zero, zero_intro, plain_fits, plain_cleared, plain_settled, plain_round, plain_weight}
 use Rattle.calls.specs.declared.Drive.{Drive}
 use Rattle.calls.specs.declared.Refusal.TheVariants.{Damaged, Name, Absent}
-use Rattle.calls.specs.declared.Check.{Check}
-use Rattle.calls.specs.declared.Check.TheVariants.{Clear, Refused}
+use Rattle.calls.specs.Types.{Check}
+use Rattle.std.specs.Prelude.{Ok, Err}
 use Rattle.calls.specs.Refusals.{refuse_if, and_then, asked_name, slot_may, slot_check, report_check, held_check, change_check}
 use Rattle.calls.specs.Results.{if_clear, idle_board}
 use Rattle.calls.proofs.Laws.{first_next, then_none}
@@ -48,8 +48,8 @@ cleared_bare : (C : ℕ) (s : BoardTables) → Bare C s → (D : List ℕ) → o
 cleared_bare C s n D = simp (plain_cleared C s.rates n.rates, plain_cleared C s.owed n.owed, plain_cleared C s.other n.other)
 
 either_lent : (k : Check) (D : List ℕ) (s : BoardTables) → if_clear k (lent D s.rates s.owed s.other) s ≡ lent (if_clear k D s.board) s.rates s.owed s.other
-either_lent Clear D s = refl
-either_lent (Refused r) D s = refl
+either_lent (Ok tt) D s = refl
+either_lent (Err r) D s = refl
 
 module _ (C : ℕ) (s : BoardTables) (L : List ℕ) (n : Bare C s) where
   opening_same : opening.opening_check C s (length L) ≡ single.lent_check C s.board (length L)
@@ -140,8 +140,8 @@ module _ (a b : Drive) (s : BoardTables) (n : Blank a b s) where
       (rw same refl, rw same refl, written (looking.rounding_check a b s (length O)) refl)
     where
       written : (k : Check) → looking.rounding_check a b s (length O) ≡ k → looking.rounded_output a b s O ≡ plain.rounded_output a b s.board O
-      written (Refused r) e = rw (← rounding_same (length O), e) refl
-      written Clear e =
+      written (Err r) e = rw (← rounding_same (length O), e) refl
+      written (Ok tt) e =
           rw (← rounding_same (length O), e, plain_round a.capacity s.rates n.rates s.board (ready_position a s (rounding_ready a b s (length O) e))) refl
 
   -- ---- report
@@ -155,16 +155,16 @@ module _ (a b : Drive) (s : BoardTables) (n : Blank a b s) where
   reporting_same x = go (look_check a b s) refl
     where
       go : (k : Check) → look_check a b s ≡ k → and_then (look_check a b s) (held_check a.capacity s.board x) ≡ and_then (pair.look_check a b s.board) (report_check a s.board x)
-      go (Refused r) e = rw (← look_same, e) refl
-      go Clear e = rw (← look_same, e, report_parts x, (share_ready a b s false e).clear, n.sound) refl
+      go (Err r) e = rw (← look_same, e) refl
+      go (Ok tt) e = rw (← look_same, e, report_parts x, (share_ready a b s false e).clear, n.sound) refl
 
   pub report_agrees : (x : ℕ) → (looking.reported a b s x ≡ plain.reported a b s.board x) × (looking.reported_answer a b s x ≡ plain.reported_answer a b s.board x)
   report_agrees x = go (looking.reporting_check a b s x) refl
     where
       go : (k : Check) → looking.reporting_check a b s x ≡ k
           → (looking.reported a b s x ≡ plain.reported a b s.board x) × (looking.reported_answer a b s x ≡ plain.reported_answer a b s.board x)
-      go (Refused r) e = rw (← reporting_same x, e) (refl, refl)
-      go Clear e =
+      go (Err r) e = rw (← reporting_same x, e) (refl, refl)
+      go (Ok tt) e =
           let q = reporting_clear a b s x e in
           rw (← reporting_same x, e, plain_weight a.capacity s.rates n.rates s.board x q.held, plain_round a.capacity s.rates n.rates s.board (ready_position a s q.ready))
           (refl, refl)
@@ -172,16 +172,16 @@ module _ (a b : Drive) (s : BoardTables) (n : Blank a b s) where
   -- ---- save
 
   -- A form of sheet, by equal checks before 11.
-  room_same : (F : Form) (m : ℕ) (j k : Check) → j ≡ k → (j ≡ Clear → forms.saving_check F a s.board m ≡ room_check m (size_of F a s.board))
+  room_same : (F : Form) (m : ℕ) (j k : Check) → j ≡ k → (j ≡ Ok tt → forms.saving_check F a s.board m ≡ room_check m (size_of F a s.board))
       → starting.saving_check_as F j a s m ≡ and_then k (forms.saving_check F a s.board m)
   unfolding starting.saving_check_as
-  room_same F m Clear k e rest = rw (← e, rest refl) refl
-  room_same F m (Refused r) k e rest = rw (← e) refl
+  room_same F m (Ok tt) k e rest = rw (← e, rest refl) refl
+  room_same F m (Err r) k e rest = rw (← e) refl
 
   saves_agree : (F : Form) (O : List ℕ) (j k : Check) → j ≡ k
       → (starting.saved_answer_as F j a s ≡ plain.saved_answer_by F k a s.board) × (starting.saved_output_as F j a s O ≡ plain.saved_output_by F k a s.board O)
-  saves_agree F O Clear k e = rw (← e, zero_intro s.rates a.capacity n.rates) (refl, refl)
-  saves_agree F O (Refused r) k e = rw (← e) (refl, refl)
+  saves_agree F O (Ok tt) k e = rw (← e, zero_intro s.rates a.capacity n.rates) (refl, refl)
+  saves_agree F O (Err r) k e = rw (← e) (refl, refl)
 
   saving_same : (m : ℕ) → starting.saving_check a b s m ≡ pair.pair_save_check a b s.board m
   unfolding pair.pair_save_check
@@ -208,8 +208,8 @@ module _ (a b : Drive) (s : BoardTables) (n : Blank a b s) where
   fresh_same = go (starting.start_check a b s) refl
     where
       go : (k : Check) → starting.start_check a b s ≡ k → starting.start_check a b s ≡ and_then (pair.start_check a b s.board) (change_check a s.board)
-      go (Refused r) e = rw (← start_same, e) refl
-      go Clear e =
+      go (Err r) e = rw (← start_same, e) refl
+      go (Ok tt) e =
           let at = (start_both a b (start_both_there a b s e)).0 in
           rw (← start_same, ← ready_change a s (start_ready a b s e) at, e) refl
 

@@ -14,7 +14,7 @@ use Rattle.tables.specs.Settling.{settled_table, cleared_table}
 use Rattle.tables.specs.Turns.{round_serves, served_weight}
 use Rattle.calls.specs.declared.Drive.{Drive}
 use Rattle.calls.specs.declared.Refusal.TheVariants.{Short, Position, Midround, Damaged, Name, Absent, Output}
-use Rattle.calls.specs.declared.Check.TheVariants.{Clear, Refused}
+use Rattle.std.specs.Prelude.{Ok, Err}
 use Rattle.calls.specs.Records.{drive_at}
 use Rattle.calls.specs.Refusals.{applies, open_check, round_check, held_check}
 use Rattle.calls.specs.Results.{idle_board}
@@ -56,7 +56,7 @@ checks :
     ∷ rounding_check (drive_at 4 2) (first_slot 4) (lent (9 ∷ 9 ∷ 9 ∷ 9 ∷ []) (0 ∷ 3 ∷ 0 ∷ 0 ∷ []) zeros zeros) 4
     ∷ reporting_check (first_slot 4) (first_slot 4) (lent (9 ∷ 9 ∷ 9 ∷ 9 ∷ []) (3 ∷ 0 ∷ 0 ∷ 0 ∷ []) zeros (4 ∷ 0 ∷ 0 ∷ 0 ∷ [])) 0
     ∷ reporting_check (first_slot 4) (first_slot 4) nine 0 ∷ reporting_check (first_slot 4) (first_slot 4) nine 8 ∷ [])
-    ≡ Refused Damaged ∷ Refused Output ∷ Refused Position ∷ Refused Short ∷ Refused Damaged ∷ Refused Damaged ∷ Refused Name ∷ Refused Absent ∷ []
+    ≡ Err Damaged ∷ Err Output ∷ Err Position ∷ Err Short ∷ Err Damaged ∷ Err Damaged ∷ Err Name ∷ Err Absent ∷ []
 unfolding rounding_check reporting_check share_check too_few pair_check size_check place_check applies digits round_check held_check fits sound single pieces whole uniform weight
 checks = refl
 
@@ -64,14 +64,14 @@ checks = refl
 saves :
     (start_check (first_slot 4) (drive_at 4 2) (lent (9 ∷ 0 ∷ 0 ∷ 9 ∷ []) zeros zeros zeros) ∷ start_check (first_slot 4) (first_slot 4) (lent (9 ∷ 0 ∷ 0 ∷ 9 ∷ []) zeros zeros zeros)
     ∷ saving_check (first_slot 4) (first_slot 4) nine 511 ∷ saving_check (first_slot 4) (first_slot 4) nine 512 ∷ [])
-    ≡ Refused Midround ∷ Refused Damaged ∷ Refused Output ∷ Clear ∷ []
+    ≡ Err Midround ∷ Err Damaged ∷ Err Output ∷ (Ok tt) ∷ []
 unfolding placed_check saving_check_as fit_check both_start too_few pair_check size_check place_check applies digits fits sound single pieces whole uniform weight blocks
 saves = refl
 
 -- A sheet of pieces: 4 of different positions alone, and 17 last here too.
 saves_pieces :
     (level_check (drive_at 4 2) (first_slot 4) nine ∷ saving_pieces_check (drive_at 4 2) (drive_at 4 2) nine 511 ∷ saving_pieces_check (drive_at 4 2) (drive_at 4 2) nine 512 ∷ [])
-    ≡ Refused Midround ∷ Refused Output ∷ Clear ∷ []
+    ≡ Err Midround ∷ Err Output ∷ (Ok tt) ∷ []
 unfolding placed_check saving_check_as fit_check too_few pair_check size_check place_check applies digits fits sound single pieces whole uniform weight named entry_blocks
 saves_pieces = refl
 

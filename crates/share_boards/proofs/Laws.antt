@@ -17,10 +17,8 @@ use Rattle.tables.specs.Turns.{round_serves, served_weight}
 use Rattle.tables.proofs.Laws.{cleared_fits, rated_at, one_piece, round_serves_lem}
 use Rattle.calls.specs.declared.Drive.{Drive}
 use Rattle.calls.specs.declared.Refusal.TheVariants.{Short, Damaged, Name, Absent, Output}
-use Rattle.calls.specs.declared.Check.{Check}
-use Rattle.calls.specs.declared.Check.TheVariants.{Clear, Refused}
-use Rattle.calls.specs.declared.Checked.{Checked}
-use Rattle.calls.specs.declared.Reported.{Reported}
+use Rattle.calls.specs.Types.{Check, Checked, Reported}
+use Rattle.std.specs.Prelude.{Ok, Err}
 use Rattle.calls.specs.Records.{drive_at}
 use Rattle.calls.specs.Refusals.{and_then, zero_or, numbers, among, asked, asked_open, asked_output, asked_name, open_may, round_may, report_may, change_may, open_check, round_check, held_check, good_check}
 use Rattle.calls.specs.Answers.{Answer, report_answer, check_answer}
@@ -34,7 +32,7 @@ use Rattle.sheets.specs.Results.{leaf_form, piece_form}
 use Rattle.sheets.proofs.Laws.{read_good, read_pieces_good}
 use Rattle.waiting.specs.Layout.{too_short}
 use Rattle.drives.specs.Checks.{both_start}
-use Rattle.share_boards.specs.declared.starting.ShareSaved.{ShareSaved}
+use Rattle.share_boards.specs.Types.{ShareSaved}
 use Rattle.shares.specs.States.{BoardTables, fitting}
 use Rattle.shares.specs.Checks.{too_few, placed_check, look_check, Ready}
 use Rattle.share_boards.specs.Opening.{lent_check, opening_check, reading_check_as, reading_check, opened_answer, opened_state, loaded_answer_as, loaded_state_as, loaded_answer, loaded_state, Opens, LoadsAs, Loads, LoadsPieces}
@@ -60,7 +58,7 @@ pub use Rattle.share_boards.proofs.Relaid.{fresh_fits, fresh_held, fresh_moves, 
 -- 2 for what is lent beside the board.
 lent_within : (ns : List ℕ) (C : ℕ) (s : BoardTables) (n : ℕ) → zero_or 2 ns ≡ true → zero_or 0 ns ≡ true → Within ns (lent_check C s n)
 unfolding lent_check
-lent_within ns C s n two none = if_within ns (too_short n || too_few C s) Short Clear two none
+lent_within ns C s n two none = if_within ns (too_short n || too_few C s) Short (Ok tt) two none
 
 -- ---- open
 
@@ -86,7 +84,7 @@ module _ (C : ℕ) (s : BoardTables) (L : List ℕ) where
   open_may_lem p = may open_may p.1 open_answers
 
   -- What it leaves fits.
-  pub open_fits : opening_check C s (length L) ≡ Clear → fitting C (opened_state C s (length L)) ≡ true
+  pub open_fits : opening_check C s (length L) ≡ Ok tt → fitting C (opened_state C s (length L)) ≡ true
   open_fits e =
       let few = (opening_ready C s (length L) e).0 in
       rw e (cleared_fits C (idle_board C s.board) s.rates (s.owed ∷ s.other ∷ []) (opened_good C (idle_board C s.board) few (idle_leaf C s.board)))
@@ -121,8 +119,8 @@ module _ (form : Form) (S : List ℕ) (s : BoardTables) (L : List ℕ) where
       (part_within ns (5 ∷ []) (good_check C (form.leaves C S)) refl (first_within (Damaged ∷ []) (asked (drive_at C 1) (form.leaves C S)))))))
 
   -- What is accepted is accepted without tables, and what is lent is long enough.
-  pub loads_accepts : reading_check_as form S s (length L) ≡ Clear
-      → (forms.reading_check form S s.board ≡ Clear) × (lent_check (capacity_in S) s (length L) ≡ Clear)
+  pub loads_accepts : reading_check_as form S s (length L) ≡ Ok tt
+      → (forms.reading_check form S s.board ≡ Ok tt) × (lent_check (capacity_in S) s (length L) ≡ Ok tt)
   unfolding reading_check_as forms.reading_check
   loads_accepts e =
       let C = capacity_in S in
@@ -132,7 +130,7 @@ module _ (form : Form) (S : List ℕ) (s : BoardTables) (L : List ℕ) where
         first_clear (lent_check C s (length L)) held later,
       )
 
-  loads_fits : good (capacity_in S) (form.leaves (capacity_in S) S ++ drop (capacity_in S) s.board) ≡ true → reading_check_as form S s (length L) ≡ Clear
+  loads_fits : good (capacity_in S) (form.leaves (capacity_in S) S ++ drop (capacity_in S) s.board) ≡ true → reading_check_as form S s (length L) ≡ Ok tt
       → fitting (capacity_in S) (loaded_state_as form S s (length L)) ≡ true
   loads_fits g e = rw e (cleared_fits (capacity_in S) (form.leaves (capacity_in S) S ++ drop (capacity_in S) s.board) s.rates (s.owed ∷ s.other ∷ []) g)
 
@@ -150,11 +148,11 @@ module _ (S : List ℕ) (s : BoardTables) (L : List ℕ) where
   read_may_lem p = may read_may p.1 read_answers
 
   -- What is accepted is accepted without tables,
-  pub read_accepts : reading_check S s (length L) ≡ Clear → sheets.read_check S s.board ≡ Clear
+  pub read_accepts : reading_check S s (length L) ≡ Ok tt → sheets.read_check S s.board ≡ Ok tt
   read_accepts e = (loads_accepts leaf_form S s L e).0
 
   -- and what it leaves fits.
-  pub read_fits : reading_check S s (length L) ≡ Clear → fitting (capacity_in S) (loaded_state S s (length L)) ≡ true
+  pub read_fits : reading_check S s (length L) ≡ Ok tt → fitting (capacity_in S) (loaded_state S s (length L)) ≡ true
   read_fits e = loads_fits leaf_form S s L (read_good S s.board (read_accepts e)) e
 
 -- ---- read of a sheet of pieces
@@ -173,11 +171,11 @@ module _ (S : List ℕ) (s : BoardTables) (L : List ℕ) where
   read_pieces_may p = may read_may p.1 read_pieces_answers
 
   -- What is accepted is accepted without tables,
-  pub read_pieces_accepts : reading_check_as piece_form S s (length L) ≡ Clear → forms.reading_check piece_form S s.board ≡ Clear
+  pub read_pieces_accepts : reading_check_as piece_form S s (length L) ≡ Ok tt → forms.reading_check piece_form S s.board ≡ Ok tt
   read_pieces_accepts e = (loads_accepts piece_form S s L e).0
 
   -- and what it leaves fits.
-  pub read_pieces_fits : reading_check_as piece_form S s (length L) ≡ Clear → fitting (capacity_in S) (loaded_state_as piece_form S s (length L)) ≡ true
+  pub read_pieces_fits : reading_check_as piece_form S s (length L) ≡ Ok tt → fitting (capacity_in S) (loaded_state_as piece_form S s (length L)) ≡ true
   read_pieces_fits e = loads_fits piece_form S s L (read_pieces_good S s.board (read_pieces_accepts e)) e
 
 -- ---- round
@@ -240,14 +238,14 @@ report_over a s r i h some =
 
 -- What is not done: a refusal, or 17.
 not_saved : (k : Check) (none : Bool) (n : ℕ) (done was : List ℕ) → ((saved_answer_by k none n).number ≡ 0 → ⊥) → ((saved_answer_by k none n).values ≡ 0 ∷ []) × (if_clear k (cond none done was) was ≡ was)
-not_saved Clear true n done was h = absurd (h refl)
-not_saved Clear false n done was h = (refl, refl)
-not_saved (Refused r) none n done was h = (refl, refl)
+not_saved (Ok tt) true n done was h = absurd (h refl)
+not_saved (Ok tt) false n done was h = (refl, refl)
+not_saved (Err r) none n done was h = (refl, refl)
 
 kind_within : (ns : List ℕ) (k : Check) (none : Bool) (n : ℕ) → zero_or 17 ns ≡ true → Within ns k → zero_or (saved_answer_by k none n).number ns ≡ true
-kind_within ns Clear true n kind m = m
-kind_within ns Clear false n kind m = kind
-kind_within ns (Refused r) none n kind m = m
+kind_within ns (Ok tt) true n kind m = m
+kind_within ns (Ok tt) false n kind m = kind
+kind_within ns (Err r) none n kind m = m
 
 -- of any form of sheet, by what the check k finds
 module _ (form : Form) (k : Check) (a : Drive) (s : BoardTables) (O : List ℕ) where
@@ -268,7 +266,7 @@ saves_answers form there a b s n =
     let ns : List ℕ = 1 ∷ 2 ∷ 3 ∷ 4 ∷ 5 ∷ 11 ∷ 17 ∷ [] in
     let m = size_of form a s.board in
     kind_within ns (saving_check_as form (placed_check there a b s false) a s n) (plain_kind a s) m refl
-    (then_within ns (placed_check there a b s false) (room_check n m) (part_within ns (1 ∷ 2 ∷ 3 ∷ 4 ∷ 5 ∷ []) (placed_check there a b s false) refl (placed_within a b s false there)) (if_within ns (ltb n m) Output Clear refl refl))
+    (then_within ns (placed_check there a b s false) (room_check n m) (part_within ns (1 ∷ 2 ∷ 3 ∷ 4 ∷ 5 ∷ []) (placed_check there a b s false) refl (placed_within a b s false there)) (if_within ns (ltb n m) Output (Ok tt) refl refl))
 
 module _ (a b : Drive) (s : BoardTables) (O : List ℕ) where
   pub save_unique : {r q : ShareSaved} {E F : List ℕ} → Saves a b s O r E → Saves a b s O q F → (r ≡ q) × (E ≡ F)
@@ -301,7 +299,7 @@ module _ (a b : Drive) (s : BoardTables) (O : List ℕ) where
   save_pieces_may_lem p = rw p.1 save_pieces_answers
 
   -- Where it finds nothing both drives are at the position that is saved.
-  pub save_pieces_level : saving_pieces_check a b s (length O) ≡ Clear → a.position ≡ b.position
+  pub save_pieces_level : saving_pieces_check a b s (length O) ≡ Ok tt → a.position ≡ b.position
   unfolding saving_check_as
   save_pieces_level e = level_same a b s (first_clear (starting.level_check a b s) (room_check (length O) (size_of piece_form a s.board)) e)
 

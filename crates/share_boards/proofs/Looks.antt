@@ -17,7 +17,7 @@ use Rattle.tables.specs.Sharing.{lowest}
 use Rattle.tables.specs.Turns.{Shared, served_weight, round_serves}
 use Rattle.tables.proofs.Laws.{held_above, lowest_held, rated_at, fits_shared, spacing_most}
 use Rattle.calls.specs.declared.Drive.{Drive}
-use Rattle.calls.specs.declared.Check.TheVariants.{Clear}
+use Rattle.std.specs.Prelude.{Ok}
 use Rattle.calls.specs.Records.{drive_at}
 use Rattle.calls.specs.Spacing.{spacing_in}
 use Rattle.calls.specs.Refusals.{remove_check, round_check, held_check}
@@ -55,7 +55,7 @@ module _ (a : Drive) (s : BoardTables) (r : Ready a s) where
 
 -- ---- round
 
-module _ (a b : Drive) (s : BoardTables) (n : ℕ) (e : rounding_check a b s n ≡ Clear) where
+module _ (a b : Drive) (s : BoardTables) (n : ℕ) (e : rounding_check a b s n ≡ Ok tt) where
   pub rounding_ready : Ready a s
   unfolding rounding_check
   rounding_ready = share_ready a b s false (first_clear (look_check a b s) (round_check a s.board n) e)
@@ -74,7 +74,7 @@ pub record Reportable (a : Drive) (s : BoardTables) (x : ℕ) : Type 0 where
   pub named : x ≡ 0 → ⊥
   pub held : 0 < weight a.capacity s.board x
 
-pub reporting_clear : (a b : Drive) (s : BoardTables) (x : ℕ) → reporting_check a b s x ≡ Clear → Reportable a s x
+pub reporting_clear : (a b : Drive) (s : BoardTables) (x : ℕ) → reporting_check a b s x ≡ Ok tt → Reportable a s x
 unfolding reporting_check
 reporting_clear a b s x e =
     let r = share_ready a b s false (first_clear (look_check a b s) (held_check a.capacity s.board x) e) in

@@ -2,7 +2,7 @@
 -- Assumes nothing.
 use mathlib.Core.Path.{◌≡◌, refl, ◌∙◌}
 use mathlib.Core.Bool.{◌||◌}
-use mathlib.Core.List.{List, [], ◌++◌}
+use mathlib.Core.List.{List, ◌++◌}
 use Prim.Native.Nat.{ℕ, ◌≤◌}
 use native.Mathlib.Omega.{arith}
 use lib.ListN.{length, drop}
@@ -11,9 +11,8 @@ use Rattle.general.proofs.Laws.{neither}
 use Rattle.tables.specs.Settling.{cleared_table}
 use Rattle.calls.specs.declared.Refusal.{Refusal}
 use Rattle.calls.specs.declared.Refusal.TheVariants.{Short}
-use Rattle.calls.specs.declared.Check.{Check}
-use Rattle.calls.specs.declared.Check.TheVariants.{Clear, Refused}
-use Rattle.calls.specs.declared.Checked.{Checked}
+use Rattle.calls.specs.Types.{Check, Checked}
+use Rattle.std.specs.Prelude.{Ok, Err}
 use Rattle.calls.specs.Records.{drive_at}
 use Rattle.calls.specs.Refusals.{and_then, open_check}
 use Rattle.calls.specs.Results.{if_clear}
@@ -31,35 +30,21 @@ use Rattle.shares.proofs.Laws.{few_long}
 
 -- ---- 2
 
-pub lent_long : (C : ℕ) (s : BoardTables) (n : ℕ) → lent_check C s n ≡ Clear → (259 ≤ n) × (C ≤ length s.rates) × (C ≤ length s.owed) × (C ≤ length s.other)
+pub lent_long : (C : ℕ) (s : BoardTables) (n : ℕ) → lent_check C s n ≡ Ok tt → (259 ≤ n) × (C ≤ length s.rates) × (C ≤ length s.owed) × (C ≤ length s.other)
 unfolding lent_check
 lent_long C s n e =
-    let f = neither (too_short n) (too_few C s) (refuse_clear (too_short n || too_few C s) Short Clear e).0 in
+    let f = neither (too_short n) (too_few C s) (refuse_clear (too_short n || too_few C s) Short (Ok tt) e).0 in
     let l = few_long C s f.1 in
     (ltb-false n 259 f.0, l.0, l.1, l.2)
 
--- The board does not count in it.
-lent_tables : (C : ℕ) (B T E F : List ℕ) (n : ℕ) → lent_check C (lent [] T E F) n ≡ lent_check C (lent B T E F) n
-unfolding lent_check too_few
-lent_tables C B T E F n = refl
-
 -- ---- open
 
-module _ (C : ℕ) (B T E F : List ℕ) (n : ℕ) where
-  pub opening_refused : (r : Refusal) → open_check C B ≡ Refused r → Refused r ≡ opening_check C (lent B T E F) n
-  unfolding opening_check
-  opening_refused r e = rw e refl
-
-  pub opening_next : (k : Check) → open_check C B ≡ Clear → k ≡ lent_check C (lent [] T E F) n → k ≡ opening_check C (lent B T E F) n
-  unfolding opening_check
-  opening_next k e h = rw e (h ∙ lent_tables C B T E F n)
-
-module _ (C : ℕ) (s : BoardTables) (n : ℕ) (e : opening_check C s n ≡ Clear) where
-  opening_open : open_check C s.board ≡ Clear
+module _ (C : ℕ) (s : BoardTables) (n : ℕ) (e : opening_check C s n ≡ Ok tt) where
+  opening_open : open_check C s.board ≡ Ok tt
   unfolding opening_check
   opening_open = first_clear (open_check C s.board) (lent_check C s n) e
 
-  opening_lent : lent_check C s n ≡ Clear
+  opening_lent : lent_check C s n ≡ Ok tt
   unfolding opening_check
   opening_lent = then_clear (open_check C s.board) (lent_check C s n) e
 
@@ -70,11 +55,11 @@ module _ (C : ℕ) (s : BoardTables) (n : ℕ) (e : opening_check C s n ≡ Clea
       ((open_clear C s.board opening_open).few, l.1, l.2, l.3)
 
   -- the plain open finds nothing either
-  pub opening_plain : plain.lent_check C s.board n ≡ Clear
+  pub opening_plain : plain.lent_check C s.board n ≡ Ok tt
   unfolding plain.lent_check
   opening_plain = rw (opening_open, le-ltb n 259 (lent_long C s n opening_lent).0) refl
 
-pub open_done : (C : ℕ) (s : BoardTables) (L : List ℕ) → opening_check C s (length L) ≡ Clear → {r : Checked} {D M T E F : List ℕ} → plainly.Opens C s.board L r D M
+pub open_done : (C : ℕ) (s : BoardTables) (L : List ℕ) → opening_check C s (length L) ≡ Ok tt → {r : Checked} {D M T E F : List ℕ} → plainly.Opens C s.board L r D M
     → T ≡ cleared_table C s.rates → E ≡ cleared_table C s.owed → F ≡ cleared_table C s.other → Opens C s L r (lent D T E F) M
 open_done C s L e p t u v =
     let o = opening_plain C s (length L) e in
@@ -83,32 +68,25 @@ open_done C s L e p t u v =
 -- ---- read
 
 then_then : (j k l : Check) → and_then j (and_then k l) ≡ and_then (and_then j k) l
-then_then Clear k l = refl
-then_then (Refused r) k l = refl
+then_then (Ok tt) k l = refl
+then_then (Err r) k l = refl
 
 -- What read finds first: its plain first checks, then 2 of what is lent beside the board.
 abbrev pub first_check : List ℕ → BoardTables → ℕ → Check
 first_check S s n = and_then (head_check S s.board) (lent_check (capacity_in S) s n)
 
-module _ (S B T E F : List ℕ) (n : ℕ) where
-  pub first_refused : (r : Refusal) → head_check S B ≡ Refused r → Refused r ≡ first_check S (lent B T E F) n
-  first_refused r e = rw e refl
-
-  pub first_next : (c : ℕ) (k : Check) → head_check S B ≡ Clear → c ≡ capacity_in S → k ≡ lent_check c (lent [] T E F) n → k ≡ first_check S (lent B T E F) n
-  first_next c k e i h = rw e (h ∙ rw i (lent_tables (capacity_in S) B T E F n))
-
 -- refused by these it is refused,
-pub reading_refused : (form : Form) (S : List ℕ) (s : BoardTables) (n : ℕ) (r : Refusal) → first_check S s n ≡ Refused r → reading_check_as form S s n ≡ Refused r
+pub reading_refused : (form : Form) (S : List ℕ) (s : BoardTables) (n : ℕ) (r : Refusal) → first_check S s n ≡ Err r → reading_check_as form S s n ≡ Err r
 unfolding reading_check_as
 reading_refused form S s n r e =
     then_then (head_check S s.board) (lent_check (capacity_in S) s n) (sheet_check form (capacity_in S) S) ∙ rw e refl
 
 -- and else it is read as without tables
-module _ (S : List ℕ) (s : BoardTables) (n : ℕ) (e : first_check S s n ≡ Clear) where
-  reading_head : head_check S s.board ≡ Clear
+module _ (S : List ℕ) (s : BoardTables) (n : ℕ) (e : first_check S s n ≡ Ok tt) where
+  reading_head : head_check S s.board ≡ Ok tt
   reading_head = first_clear (head_check S s.board) (lent_check (capacity_in S) s n) e
 
-  reading_lent : lent_check (capacity_in S) s n ≡ Clear
+  reading_lent : lent_check (capacity_in S) s n ≡ Ok tt
   reading_lent = then_clear (head_check S s.board) (lent_check (capacity_in S) s n) e
 
   pub reading_plain : (form : Form) → reading_check_as form S s n ≡ plain.reading_check form S s.board n
@@ -125,18 +103,18 @@ taken : (k : Check) (C p : ℕ) (D B T E F : List ℕ)
     → let c = (if_clear k (drive_at C p) (drive_at 0 0)).capacity in
     lent (if_clear k D B) (cleared_table c T) (cleared_table c E) (cleared_table c F) ≡ if_clear k (cleared C D (lent B T E F)) (lent B T E F)
 unfolding cleared_table
-taken Clear C p D B T E F = refl
-taken (Refused r) C p D B T E F = refl
+taken (Ok tt) C p D B T E F = refl
+taken (Err r) C p D B T E F = refl
 
 -- x is the result of the plain read, D and M the board and the list that it leaves
-module _ (form : Form) (S B T E F L : List ℕ) (e : first_check S (lent B T E F) (length L) ≡ Clear) {x : Checked} {D M : List ℕ} (p : plainly.LoadsAs form S B L x D M) where
+module _ (form : Form) (S B T E F L : List ℕ) (e : first_check S (lent B T E F) (length L) ≡ Ok tt) {x : Checked} {D M : List ℕ} (p : plainly.LoadsAs form S B L x D M) where
   -- a refused read has the capacity 0
   pub read_within : (x.drive.capacity ≤ 4095) × (x.drive.capacity ≤ length T) × (x.drive.capacity ≤ length E) × (x.drive.capacity ≤ length F)
   read_within = rw p.0 (go (plain.reading_check form S B (length L)))
     where
       go : (k : Check) → let c = (if_clear k (drive_at (capacity_in S) (form.position S)) (drive_at 0 0)).capacity in (c ≤ 4095) × (c ≤ length T) × (c ≤ length E) × (c ≤ length F)
-      go Clear = reading_ready S (lent B T E F) (length L) e
-      go (Refused r) = omega arith
+      go (Ok tt) = reading_ready S (lent B T E F) (length L) e
+      go (Err r) = omega arith
 
   pub read_takes : {y : Checked} {T' E' F' : List ℕ} → y ≡ x → T' ≡ cleared_table x.drive.capacity T → E' ≡ cleared_table x.drive.capacity E → F' ≡ cleared_table x.drive.capacity F
       → LoadsAs form S (lent B T E F) L y (lent D T' E' F') M

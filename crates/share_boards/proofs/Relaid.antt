@@ -16,8 +16,8 @@ use Rattle.tables.specs.Sharing.{lowest, leads}
 use Rattle.tables.specs.Settling.{settled_table}
 use Rattle.tables.proofs.Laws.{settled_length, settled_beyond, settled_from, settled_some, settled_fits, settled_moves, leads_name}
 use Rattle.calls.specs.declared.Drive.{Drive}
-use Rattle.calls.specs.declared.Check.{Check}
-use Rattle.calls.specs.declared.Check.TheVariants.{Clear, Refused}
+use Rattle.calls.specs.Types.{Check}
+use Rattle.std.specs.Prelude.{Ok, Err}
 use Rattle.calls.specs.Refusals.{applies}
 use Rattle.calls.specs.Results.{if_clear}
 use Rattle.drives.specs.Checks.{pair_check, size_check}
@@ -29,7 +29,7 @@ use Rattle.share_boards.proofs.Starts.{start_ready}
 
 -- ---- what it leaves
 
-module _ (a b : Drive) (s : BoardTables) (e : start_check a b s ≡ Clear) where
+module _ (a b : Drive) (s : BoardTables) (e : start_check a b s ≡ Ok tt) where
   -- What it leaves fits,
   pub fresh_fits : fitting a.capacity (refreshed_state a b s) ≡ true
   unfolding afresh
@@ -118,7 +118,7 @@ unfolding afresh
 board_length C s few long = fresh_length C s.board few long
 
 module _ (a b : Drive) (s : BoardTables) where
-  again_clear : start_check a b s ≡ Clear → start_check a b (afresh a.capacity s) ≡ start_check a b s
+  again_clear : start_check a b s ≡ Ok tt → start_check a b (afresh a.capacity s) ≡ start_check a b s
   unfolding placed_check
   again_clear e =
       let r = start_ready a b s e in
@@ -136,20 +136,20 @@ module _ (a b : Drive) (s : BoardTables) where
   fresh_keeps = go (start_check a b s) refl
     where
       go : (k : Check) → start_check a b s ≡ k → start_check a b (if_clear k (afresh a.capacity s) s) ≡ start_check a b s
-      go (Refused r) e = refl
-      go Clear e = again_clear e
+      go (Err r) e = refl
+      go (Ok tt) e = again_clear e
 
   -- and doing it again changes nothing.
   pub fresh_twice : refreshed_state a b (refreshed_state a b s) ≡ refreshed_state a b s
   fresh_twice = rw fresh_keeps (go (start_check a b s) refl)
     where
       go : (k : Check) → start_check a b s ≡ k → if_clear k (afresh a.capacity (if_clear k (afresh a.capacity s) s)) (if_clear k (afresh a.capacity s) s) ≡ if_clear k (afresh a.capacity s) s
-      go (Refused r) e = refl
-      go Clear e = let z = ready_sized a s (start_ready a b s e) in afresh_again a.capacity s z.few z.long
+      go (Err r) e = refl
+      go (Ok tt) e = let z = ready_sized a s (start_ready a b s e) in afresh_again a.capacity s z.few z.long
 
 -- ---- equal streams and weights give equal boards, whatever the histories
 
-module _ (a b : Drive) (s : BoardTables) (e : start_check a b s ≡ Clear) (a' b' : Drive) (s' : BoardTables) (e' : start_check a' b' s' ≡ Clear) (size : a.capacity ≡ a'.capacity)
+module _ (a b : Drive) (s : BoardTables) (e : start_check a b s ≡ Ok tt) (a' b' : Drive) (s' : BoardTables) (e' : start_check a' b' s' ≡ Ok tt) (size : a.capacity ≡ a'.capacity)
     (same : (x : ℕ) → (x ≡ 0 → ⊥) → weight a.capacity s.board x ≡ weight a.capacity s'.board x) where
   pub fresh_equal : (i : ℕ) → i < a.capacity → get_or (refreshed_state a b s).board i 0 ≡ get_or (refreshed_state a' b' s').board i 0
   unfolding afresh

@@ -12,11 +12,11 @@ use Rattle.tables.specs.Settling.{settled_table, Alike}
 use Rattle.tables.proofs.Laws.{settled_told}
 use Rattle.calls.specs.declared.Drive.{Drive}
 use Rattle.calls.specs.declared.Refusal.{Refusal}
-use Rattle.calls.specs.declared.Check.{Check}
-use Rattle.calls.specs.declared.Check.TheVariants.{Clear, Refused}
+use Rattle.calls.specs.Types.{Check}
+use Rattle.std.specs.Prelude.{Ok, Err}
 use Rattle.calls.specs.Refusals.{good_check}
 use Rattle.calls.specs.Results.{if_clear}
-use Rattle.sheets.specs.declared.Saving.{Saving}
+use Rattle.sheets.specs.Types.{Saving}
 use Rattle.sheets.specs.Forms as forms
 use Rattle.sheets.specs.Forms.{Form, size_of, room_check}
 use Rattle.sheets.specs.Results.{save_check, leaf_form, piece_form}
@@ -25,15 +25,15 @@ use Rattle.drives.specs.Checks.{both_start}
 use Rattle.drives.proofs.Laws.{start_both}
 use Rattle.shares.specs.States.{BoardTables, lent}
 use Rattle.shares.specs.Checks.{placed_check, Ready}
-use Rattle.share_boards.specs.declared.starting.ShareSaving.{ShareSaving}
-use Rattle.share_boards.specs.declared.starting.ShareSaving.TheVariants as saving
+use Rattle.share_boards.specs.Types.{ShareSaving}
+use Rattle.share_boards.specs.declared.starting.Unsaved.TheVariants as unsaved
 use Rattle.share_boards.specs.Starting.{start_check, level_check, saving_check_as, plain_kind, saving_answer, saving_by, plainly, saved_answer_by, SavesAs, afresh, Refreshes}
 use Rattle.shares.proofs.Laws.{placed_there, placed_look, share_ready, ready_change}
 use Rattle.share_boards.proofs.Looks.{ready_sized, ready_shared}
 
 -- ---- what is known once 1 to 5 find nothing
 
-module _ (there : Bool) (a b : Drive) (s : BoardTables) (e : placed_check there a b s false ≡ Clear) where
+module _ (there : Bool) (a b : Drive) (s : BoardTables) (e : placed_check there a b s false ≡ Ok tt) where
   pub placed_ready : Ready a s
   placed_ready = share_ready a b s false (placed_look there a b s false e)
 
@@ -45,7 +45,7 @@ module _ (there : Bool) (a b : Drive) (s : BoardTables) (e : placed_check there 
   pub placed_rates : (a.capacity ≤ length s.rates) × (a.capacity ≤ 4095)
   placed_rates = (placed_ready.rates, placed_board.1)
 
-module _ (a b : Drive) (s : BoardTables) (e : start_check a b s ≡ Clear) where
+module _ (a b : Drive) (s : BoardTables) (e : start_check a b s ≡ Ok tt) where
   pub start_both_there : both_start a b ≡ true
   start_both_there = placed_there (both_start a b) a b s false e
 
@@ -53,18 +53,18 @@ module _ (a b : Drive) (s : BoardTables) (e : start_check a b s ≡ Clear) where
   start_ready = placed_ready (both_start a b) a b s e
 
 -- Both drives are at the position that a sheet of pieces is saved with.
-pub level_same : (a b : Drive) (s : BoardTables) → level_check a b s ≡ Clear → a.position ≡ b.position
+pub level_same : (a b : Drive) (s : BoardTables) → level_check a b s ≡ Ok tt → a.position ≡ b.position
 level_same a b s e = eqb-true a.position b.position (placed_there (eqb a.position b.position) a b s false e)
 
 -- ---- save
 
 -- Once 1 to 5 find nothing there is 11 left of the checks of each save without tables.
-pub save_rest : (a b : Drive) (s : BoardTables) (n : ℕ) → start_check a b s ≡ Clear → save_check a s.board n ≡ room_check n (size_of leaf_form a s.board)
+pub save_rest : (a b : Drive) (s : BoardTables) (n : ℕ) → start_check a b s ≡ Ok tt → save_check a s.board n ≡ room_check n (size_of leaf_form a s.board)
 save_rest a b s n e =
     let at = (start_both a b (start_both_there a b s e)).0 in
     save_parts a s.board n ∙ rw (← ready_change a s (start_ready a b s e) at) refl
 
-pub pieces_rest : (a b : Drive) (s : BoardTables) (n : ℕ) → level_check a b s ≡ Clear
+pub pieces_rest : (a b : Drive) (s : BoardTables) (n : ℕ) → level_check a b s ≡ Ok tt
     → forms.saving_check piece_form a s.board n ≡ room_check n (size_of piece_form a s.board)
 unfolding good_check
 pieces_rest a b s n e =
@@ -73,24 +73,24 @@ pieces_rest a b s n e =
 
 -- what a save answers by what room finds, where no over-allocated stream is held, and where one is
 plainly_told : (k : Check) (n : ℕ) → (plainly (forms.saving_by k n) ≡ saving_by k true n) × (saving_answer (saving_by k true n) ≡ saved_answer_by k true n)
-plainly_told Clear n = (refl, refl)
-plainly_told (Refused r) n = (refl, refl)
+plainly_told (Ok tt) n = (refl, refl)
+plainly_told (Err r) n = (refl, refl)
 
 kind_told : (k : Check) (n : ℕ) (O : List ℕ) → (saving_answer (saving_by k false n) ≡ saved_answer_by k false n) × (O ≡ if_clear k O O)
-kind_told Clear n O = (refl, refl)
-kind_told (Refused r) n O = (refl, refl)
+kind_told (Ok tt) n O = (refl, refl)
+kind_told (Err r) n O = (refl, refl)
 
 -- A form of sheet, and the check k before 11.
 module _ (F : Form) (k : Check) (a : Drive) (s : BoardTables) (O : List ℕ) where
   abbrev bytes : ℕ
   bytes = size_of F a s.board
 
-  pub save_refused : (r : Refusal) → k ≡ Refused r
-      → SavesAs F (saving_check_as F k a s (length O)) a s O (record { drive = a; answer = saving.Refused r }) O
+  pub save_refused : (r : Refusal) → k ≡ Err r
+      → SavesAs F (saving_check_as F k a s (length O)) a s O (record { drive = a; answer = Err (unsaved.Refused r) }) O
   unfolding saving_check_as
   save_refused r e = rw e (refl, refl, refl)
 
-  module _ (e : k ≡ Clear) where
+  module _ (e : k ≡ Ok tt) where
     -- x is what putting the sheet answers
     pub save_puts : plain_kind a s ≡ true → (x : Saving) (y : ShareSaving) (E : List ℕ) → forms.Puts F a.capacity a.position s.board O x E → y ≡ plainly x
         → SavesAs F (saving_check_as F k a s (length O)) a s O (record { drive = a; answer = y }) E
@@ -108,9 +108,9 @@ module _ (F : Form) (k : Check) (a : Drive) (s : BoardTables) (O : List ℕ) whe
 
 -- ---- the fresh layout
 
-pub fresh_done : (a b : Drive) (B T E F : List ℕ) → start_check a b (lent B T E F) ≡ Clear → (D : List ℕ) {B'' T' E' F' : List ℕ} → Alike a.capacity B D → B'' ≡ fresh a.capacity B
+pub fresh_done : (a b : Drive) (B T E F : List ℕ) → start_check a b (lent B T E F) ≡ Ok tt → (D : List ℕ) {B'' T' E' F' : List ℕ} → Alike a.capacity B D → B'' ≡ fresh a.capacity B
     → T' ≡ settled_table a.capacity D B'' T → E' ≡ settled_table a.capacity D B'' E → F' ≡ settled_table a.capacity D B'' F
-    → Refreshes a b (lent B T E F) (record { drive = a; answer = Clear }) (lent B'' T' E' F')
+    → Refreshes a b (lent B T E F) (record { drive = a; answer = (Ok tt) }) (lent B'' T' E' F')
 unfolding afresh
 fresh_done a b B T E F e D {B''} {T'} {E'} {F'} same h t u v =
     let x = settled_told a.capacity B D (fresh a.capacity B) B'' T T' same h t in

@@ -1,3 +1,4 @@
+pub mod Types
 pub mod Opening
 pub mod Looking
 pub mod Starting

@@ -7,9 +7,7 @@ use Rattle.tables.specs.Turns.{round_serves, served_weight}
 use Rattle.calls.specs.declared.Drive.{Drive}
 use Rattle.calls.specs.declared.Refusal.{Refusal}
 use Rattle.calls.specs.declared.Refusal.TheVariants.{Capacity, Short, Position, Damaged, Output}
-use Rattle.calls.specs.declared.Check.{Check}
-use Rattle.calls.specs.declared.Checked.{Checked}
-use Rattle.calls.specs.declared.Reported.{Reported}
+use Rattle.calls.specs.Types.{Check, Checked, Reported}
 use Rattle.calls.specs.Refusals.{and_then, round_check, held_check}
 use Rattle.calls.specs.Answers.{Answer, answered, check_answer, report_answer}
 use Rattle.calls.specs.Results.{if_clear, report_by}

@@ -1,12 +1,10 @@
 -- Open and read with tables, for every input: what they find, return, and leave of the list (F), the board and the tables (t). s is what is lent, S the bytes of a
 -- sheet. The record is for both drives; refused, it is one with C and p zero.
 -- Assumes nothing.
-use Rattle.std.specs.Prelude.{◌≡◌, ◌||◌, List, ◌++◌, ℕ, length, drop}
+use Rattle.std.specs.Prelude.{◌≡◌, ◌||◌, List, ◌++◌, ℕ, length, drop, Ok}
 use Rattle.tables.specs.Settling.{cleared_table}
 use Rattle.calls.specs.declared.Refusal.TheVariants.{Short}
-use Rattle.calls.specs.declared.Check.{Check}
-use Rattle.calls.specs.declared.Check.TheVariants.{Clear}
-use Rattle.calls.specs.declared.Checked.{Checked}
+use Rattle.calls.specs.Types.{Check, Checked}
 use Rattle.calls.specs.Refusals.{refuse_if, and_then, open_check}
 use Rattle.calls.specs.Answers.{Answer, check_answer}
 use Rattle.calls.specs.Results.{if_clear, set_by, idle_board}
@@ -19,7 +17,7 @@ use Rattle.shares.specs.Checks.{too_few}
 
 -- 2 for what is lent beside a board of C leaves: a list of n numbers, or a table.
 unfoldable pub lent_check : ℕ → BoardTables → ℕ → Check
-lent_check C s n = refuse_if (too_short n || too_few C s) Short Clear
+lent_check C s n = refuse_if (too_short n || too_few C s) Short (Ok tt)
 
 -- open: 1, and 2 for the board, the list or a table.
 unfoldable pub opening_check : ℕ → BoardTables → ℕ → Check

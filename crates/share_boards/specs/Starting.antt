@@ -2,25 +2,21 @@
 -- Each is made only where both drives are at one place: the start of a round, or for a sheet of pieces any position. a is the record of the drive that the call is
 -- for, which comes back, b that of the other; s is what is lent, O the output of save.
 -- Assumes nothing.
-use Rattle.std.specs.Prelude.{◌≡◌, Bool, true, false, cond, List, [], ◌∷◌, ◌++◌, ℕ, eqb, length, drop}
+use Rattle.std.specs.Prelude.{◌≡◌, Bool, true, false, cond, List, [], ◌∷◌, ◌++◌, ℕ, eqb, length, drop, Ok, Err}
 use Rattle.pieces.specs.Fresh.{fresh}
 use Rattle.tables.specs.Sharing.{all_zero}
 use Rattle.tables.specs.Settling.{settled_table}
 use Rattle.calls.specs.declared.Drive.{Drive}
-use Rattle.calls.specs.declared.Check.{Check}
-use Rattle.calls.specs.declared.Check.TheVariants.{Clear, Refused}
+use Rattle.calls.specs.Types.{Check, Checked}
 use Rattle.calls.specs.Refusals.{number_of, and_then}
 use Rattle.calls.specs.Answers.{Answer, check_answer}
 use Rattle.calls.specs.Results.{if_clear}
-use Rattle.sheets.specs.declared.Saving.{Saving}
-use Rattle.sheets.specs.declared.Saving.TheVariants as plain
-use Rattle.calls.specs.declared.Checked.{Checked}
+use Rattle.sheets.specs.Types.{Saving}
 use Rattle.sheets.specs.Forms.{Form, size_of, room_check}
 use Rattle.sheets.specs.Results.{leaf_form, piece_form}
 use Rattle.drives.specs.Checks.{both_start}
-use Rattle.share_boards.specs.declared.starting.ShareSaving.{ShareSaving}
-use Rattle.share_boards.specs.declared.starting.ShareSaving.TheVariants as saving
-use Rattle.share_boards.specs.declared.starting.ShareSaved.{ShareSaved}
+use Rattle.share_boards.specs.Types.{ShareSaving, ShareSaved}
+use Rattle.share_boards.specs.declared.starting.Unsaved.TheVariants as unsaved
 use Rattle.shares.specs.States.{BoardTables, lent}
 use Rattle.shares.specs.Checks.{placed_check}
 
@@ -50,24 +46,24 @@ plain_kind a s = all_zero a.capacity s.rates
 
 -- The number and the value of every case of its answer: 17 KIND and 0.
 abbrev pub saving_answer : ShareSaving → Answer
-saving_answer (saving.Done bytes) = record { number = 0; values = bytes ∷ [] }
-saving_answer saving.Kind = record { number = 17; values = 0 ∷ [] }
-saving_answer (saving.Refused r) = record { number = number_of r; values = 0 ∷ [] }
+saving_answer (Ok bytes) = record { number = 0; values = bytes ∷ [] }
+saving_answer (Err unsaved.Kind) = record { number = 17; values = 0 ∷ [] }
+saving_answer (Err (unsaved.Refused r)) = record { number = number_of r; values = 0 ∷ [] }
 
 -- By what the checks find, and whether no over-allocated stream is held.
 abbrev pub saving_by : Check → Bool → ℕ → ShareSaving
-saving_by Clear none bytes = cond none (saving.Done bytes) saving.Kind
-saving_by (Refused r) none bytes = saving.Refused r
+saving_by (Ok tt) none bytes = cond none (Ok bytes) (Err unsaved.Kind)
+saving_by (Err r) none bytes = Err (unsaved.Refused r)
 
 -- An answer of the save without tables.
 abbrev pub plainly : Saving → ShareSaving
-plainly (plain.Done bytes) = saving.Done bytes
-plainly (plain.Refused r) = saving.Refused r
+plainly (Ok bytes) = Ok bytes
+plainly (Err r) = Err (unsaved.Refused r)
 
 abbrev pub saved_answer_by : Check → Bool → ℕ → Answer
-saved_answer_by Clear true bytes = record { number = 0; values = bytes ∷ [] }
-saved_answer_by Clear false bytes = record { number = 17; values = 0 ∷ [] }
-saved_answer_by (Refused r) none bytes = record { number = number_of r; values = 0 ∷ [] }
+saved_answer_by (Ok tt) true bytes = record { number = 0; values = bytes ∷ [] }
+saved_answer_by (Ok tt) false bytes = record { number = 17; values = 0 ∷ [] }
+saved_answer_by (Err r) none bytes = record { number = number_of r; values = 0 ∷ [] }
 
 -- Of a form of sheet, by what the check k finds.
 abbrev pub saved_as : Form → Check → Drive → BoardTables → ShareSaved

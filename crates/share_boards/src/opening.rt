@@ -1,60 +1,45 @@
 // Open and read where tables are lent: both clear the first C entries of every table. The record is for both drives.
-ghost use Rattle.std.specs.Prelude.{◌≡◌, [], ◌≤◌, length};
+ghost use Rattle.std.specs.Prelude.{◌≡◌, ◌≤◌, length};
 ghost use Rattle.calls.specs.Refusals.{and_then};
 ghost use Rattle.tables.specs.Settling.{cleared_table};
 ghost use Rattle.sheets.specs.Sheet.{capacity_in};
 ghost use Rattle.sheets.specs.Forms.{head_check};
-ghost use Rattle.shares.specs.States as states;
+ghost use Rattle.shares.specs.States.{lent, looked};
 ghost use Rattle.share_boards.specs.Opening as opening;
 
-use calls::{Check, Checked, Drive, Refusal};
+use calls::{Checked, Drive, Refusal, Returned};
+use shares::Lent;
 
-// The refusal 2, of what is lent beside a board of c leaves: a list of so many numbers, and the tables.
-fn check_lent(c: usize, list: usize, rates: &[u16], owed: &[u16], owed_other: &[u16]) -> Check
-    ensures { result ≡ opening.lent_check c (states.lent [] rates.now owed.now owed_other.now) list }
+// The refusal 2, of what is lent beside a board of c leaves: the list and the tables.
+#[tactic(auto, unfolding(crate::specs::Opening::lent_check, shares::specs::Checks::too_few))]
+fn check_lent(c: usize, lent: Lent, list: &[u64]) -> Result<(), Refusal>
+    ensures { result ≡ opening.lent_check c (looked lent.entry) (length list.now) }
 {
-    if shares::lacks(list < waiting::LENGTH, c, rates, owed, owed_other) {
-        Check::Refused(Refusal::Short)
-    } else {
-        Check::Clear
+    let short = list.len() < waiting::LENGTH;
+    if shares::lacks(short, c, lent.rates, lent.owed, lent.owed_other) {
+        return Err(Refusal::Short);
     }
+    Ok(())
 }
 
 // The refusals 1 and 2.
-fn check_open(
-    c: usize,
-    board: &[u16],
-    list: usize,
-    rates: &[u16],
-    owed: &[u16],
-    owed_other: &[u16],
-) -> Check
-    ensures { result ≡ opening.opening_check c (states.lent board.now rates.now owed.now owed_other.now) list }
+#[tactic(auto, unfolding(crate::specs::Opening::opening_check))]
+fn check_open(c: usize, lent: Lent, list: &[u64]) -> Result<(), Refusal>
+    ensures { result ≡ opening.opening_check c (looked lent.entry) (length list.now) }
 {
-    match calls::checks::check_open(c, board) {
-        Check::Refused(r) => Check::Refused(r),
-        Check::Clear => check_lent(c, list, rates, owed, owed_other),
-    }
+    calls::checks::check_open(c, lent.board)?;
+    check_lent(c, lent, list)
 }
 
 // The first refusals of read: under 512 bytes, 12; then 1 and 2.
-fn check_head(
-    sheet: &[u8],
-    board: &[u16],
-    list: usize,
-    rates: &[u16],
-    owed: &[u16],
-    owed_other: &[u16],
-) -> Check
-    ensures { result ≡ and_then (head_check sheet.now board.now) (opening.lent_check (capacity_in sheet.now) (states.lent board.now rates.now owed.now owed_other.now) list) }
+fn check_head(sheet: &[u8], lent: Lent, list: &[u64]) -> Result<(), Refusal>
+    ensures { result ≡ and_then (head_check sheet.now (looked lent.entry).board) (opening.lent_check (capacity_in sheet.now) (looked lent.entry) (length list.now)) }
 {
-    match sheets::check_head(sheet, board) {
-        Check::Refused(r) => Check::Refused(r),
-        Check::Clear => check_lent(sheets::capacity_of(sheet), list, rates, owed, owed_other),
-    }
+    sheets::check_head(sheet, lent.board)?;
+    check_lent(sheets::capacity_of(sheet), lent, list)
 }
 
-// Clears the first c entries of every table.
+// Clears the first c entries of every table. This and `clear_after` are lent the tables apart, as C lends them, since they need no board.
 fn clear_tables(c: usize, rates: &mut [u16], owed: &mut [u16], owed_other: &mut [u16])
     requires { (c ≤ 4095) × (c ≤ length rates.old) × (c ≤ length owed.old) × (c ≤ length owed_other.old) }
     ensures { (rates.new ≡ cleared_table c rates.old) × (owed.new ≡ cleared_table c owed.old) × (owed_other.new ≡ cleared_table c owed_other.old) }
@@ -73,15 +58,21 @@ pub fn open(
     owed: &mut [u16],
     owed_other: &mut [u16],
 ) -> Checked
-    ensures { opening.Opens capacity (states.lent board.old rates.old owed.old owed_other.old) list.old result (states.lent board.new rates.new owed.new owed_other.new) list.new }
+    ensures { opening.Opens capacity (lent board.old rates.old owed.old owed_other.old) list.old result (lent board.new rates.new owed.new owed_other.new) list.new }
 {
     let c = capacity as usize;
-    match check_open(c, board, list.len(), rates, owed, owed_other) {
-        Check::Refused(r) => Checked {
+    let lent = Lent {
+        board,
+        rates,
+        owed,
+        owed_other,
+    };
+    match check_open(c, lent, list) {
+        Err(r) => Returned {
             drive: Drive::new(0, 0),
-            answer: Check::Refused(r),
+            answer: Err(r),
         },
-        Check::Clear => {
+        Ok(()) => {
             clear_tables(c, rates, owed, owed_other);
             orders::open(capacity, board, list)
         }
@@ -102,7 +93,8 @@ fn clear_after(
     loaded
 }
 
-// Reads a sheet, empties the list, and clears the tables.
+// Reads a sheet, empties the list, and clears the tables. This and the next differ in the call of `orders` alone, and what they share is above: each is a public call
+// of its own, so that one function over both forms would be a third.
 pub fn read(
     sheet: &[u8],
     board: &mut [u16],
@@ -111,17 +103,20 @@ pub fn read(
     owed: &mut [u16],
     owed_other: &mut [u16],
 ) -> Checked
-    ensures { opening.Loads sheet.now (states.lent board.old rates.old owed.old owed_other.old) list.old result (states.lent board.new rates.new owed.new owed_other.new) list.new }
+    ensures { opening.Loads sheet.now (lent board.old rates.old owed.old owed_other.old) list.old result (lent board.new rates.new owed.new owed_other.new) list.new }
 {
-    match check_head(sheet, board, list.len(), rates, owed, owed_other) {
-        Check::Refused(r) => Checked {
+    let lent = Lent {
+        board,
+        rates,
+        owed,
+        owed_other,
+    };
+    match check_head(sheet, lent, list) {
+        Err(r) => Returned {
             drive: Drive::new(0, 0),
-            answer: Check::Refused(r),
+            answer: Err(r),
         },
-        Check::Clear => {
-            let loaded = orders::read(sheet, board, list);
-            clear_after(loaded, rates, owed, owed_other)
-        }
+        Ok(()) => { clear_after(orders::read(sheet, board, list), rates, owed, owed_other) }
     }
 }
 
@@ -134,16 +129,26 @@ pub fn read_pieces(
     owed: &mut [u16],
     owed_other: &mut [u16],
 ) -> Checked
-    ensures { opening.LoadsPieces sheet.now (states.lent board.old rates.old owed.old owed_other.old) list.old result (states.lent board.new rates.new owed.new owed_other.new) list.new }
+    ensures { opening.LoadsPieces sheet.now (lent board.old rates.old owed.old owed_other.old) list.old result (lent board.new rates.new owed.new owed_other.new) list.new }
 {
-    match check_head(sheet, board, list.len(), rates, owed, owed_other) {
-        Check::Refused(r) => Checked {
+    let lent = Lent {
+        board,
+        rates,
+        owed,
+        owed_other,
+    };
+    match check_head(sheet, lent, list) {
+        Err(r) => Returned {
             drive: Drive::new(0, 0),
-            answer: Check::Refused(r),
+            answer: Err(r),
         },
-        Check::Clear => {
-            let loaded = orders::read_pieces(sheet, board, list);
-            clear_after(loaded, rates, owed, owed_other)
+        Ok(()) => {
+            clear_after(
+                orders::read_pieces(sheet, board, list),
+                rates,
+                owed,
+                owed_other,
+            )
         }
     }
 }

@@ -16,7 +16,7 @@ use Rattle.pieces.specs.Placing.{Placeable, placed}
 use Rattle.pieces.specs.Tidying.{Removable, removed}
 use Rattle.pieces.proofs.Laws.{placed_weight, placed_others, placed_leaf, removed_name, removed_others}
 use Rattle.calls.specs.declared.Drive.{Drive}
-use Rattle.calls.specs.declared.Check.TheVariants.{Clear}
+use Rattle.std.specs.Prelude.{Ok}
 use Rattle.calls.specs.Refusals.{number_of, add_check, remove_check}
 use Rattle.calls.specs.Answers.{Answer, answered}
 use Rattle.calls.proofs.Laws.{number_some, add_clear, add_weight, remove_clear}
@@ -154,7 +154,7 @@ module _ (d : Drive) (t : BoardTables) (is : Tabled d.capacity t) (g : ℕ → �
     abbrev x : ℕ
     x = o.name
 
-    add_asked : (w : ℕ) → add_check d B x w ≡ Clear → eqb o.kind 3 ≡ false → eqb o.kind 2 ≡ false → Rates C (placed C B x w) T (asked_by a o g)
+    add_asked : (w : ℕ) → add_check d B x w ≡ Ok tt → eqb o.kind 3 ≡ false → eqb o.kind 2 ≡ false → Rates C (placed C B x w) T (asked_by a o g)
     unfolding asked_by
     add_asked w e f h y named =
         let may = add_clear d B x w e in
@@ -164,7 +164,7 @@ module _ (d : Drive) (t : BoardTables) (is : Tabled d.capacity t) (g : ℕ → �
           | no q ↦ rw (z, ne_eqb y x q) (was y named ∙ sym (placed_other C B T x w may some fit (add_fit x w may) y named q))
         ]
 
-    over_asked : add_check d B x (held_for o.weight) ≡ Clear → eqb o.kind 3 ≡ true → Rates C (placed C B x (held_for o.weight)) (rated_table C (placed C B x (held_for o.weight)) T x o.weight) (asked_by a o g)
+    over_asked : add_check d B x (held_for o.weight) ≡ Ok tt → eqb o.kind 3 ≡ true → Rates C (placed C B x (held_for o.weight)) (rated_table C (placed C B x (held_for o.weight)) T x o.weight) (asked_by a o g)
     unfolding asked_by
     over_asked e f y named =
         let w = held_for o.weight in
@@ -175,7 +175,7 @@ module _ (d : Drive) (t : BoardTables) (is : Tabled d.capacity t) (g : ℕ → �
           | no q ↦ rw (z, ne_eqb y x q) (was y named ∙ sym (rated_other C B T x w may some fit (add_fit x w may) o.weight is.rates y named q))
         ]
 
-    remove_asked : remove_check d B x ≡ Clear → eqb o.kind 3 ≡ false → eqb o.kind 2 ≡ true → Rates C (removed C B x) (settled_table C B (removed C B x) T) (asked_by a o g)
+    remove_asked : remove_check d B x ≡ Ok tt → eqb o.kind 3 ≡ false → eqb o.kind 2 ≡ true → Rates C (removed C B x) (settled_table C B (removed C B x) T) (asked_by a o g)
     unfolding asked_by
     remove_asked e f h y named =
         let may = remove_clear d B x e in
@@ -197,7 +197,7 @@ module _ (d : Drive) (t : BoardTables) (is : Tabled d.capacity t) (g : ℕ → �
       let f : eqb o.kind 3 ≡ false = ne_eqb o.kind 3 (λ e. omega arith) in
       let l : eqb o.kind 1 ≡ false = ne_eqb o.kind 1 (λ e. omega arith) in
       by_check (remove_check d B o.name)
-      (λ e. rw (f, l, h, e) (remove_asked o (answered Clear (weight C (removed C B o.name) 0 ∷ [])) refl e f h))
+      (λ e. rw (f, l, h, e) (remove_asked o (answered (Ok tt) (weight C (removed C B o.name) 0 ∷ [])) refl e f h))
       (λ r e. rw (f, l, h, e) (λ y named. none_asked o (record { number = number_of r; values = 0 ∷ [] }) (number_some r) y ∙ was y named)))
       (λ h. by_bool (eqb o.kind 3)
       (λ f. by_check (add_check d B o.name (held_for o.weight))

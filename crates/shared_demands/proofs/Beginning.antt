@@ -7,7 +7,7 @@ use Prim.Native.Nat.{ℕ}
 use native.Mathlib.Omega.{arith}
 use lib.ListN.{length, drop}
 use Rattle.pieces.specs.Board.{good}
-use Rattle.calls.specs.declared.Check.TheVariants.{Clear}
+use Rattle.std.specs.Prelude.{Ok}
 use Rattle.calls.specs.Records.{drive_at}
 use Rattle.calls.specs.Refusals.{open_check, slot_check}
 use Rattle.calls.specs.Results.{idle_board}
@@ -28,7 +28,7 @@ use Rattle.shared_demands.specs.Holding.{Ready}
 use Rattle.shared_demands.proofs.Checking.{lent_share}
 
 -- a good board D of C leaves, both drives at p, the tables cleared and the list emptied
-begun : (C p : ℕ) (D : List ℕ) (t : BoardTables) (L : List ℕ) → slot_check (drive_at C p) D ≡ Clear → good C D ≡ true → lent_check C t (length L) ≡ Clear
+begun : (C p : ℕ) (D : List ℕ) (t : BoardTables) (L : List ℕ) → slot_check (drive_at C p) D ≡ Ok tt → good C D ≡ true → lent_check C t (length L) ≡ Ok tt
     → Ready (record { own = drive_at C p; other = drive_at C p; state = cleared C D t; list = emptied L })
 begun C p D t L slot fine e =
     let long = lent_long C t (length L) e in
@@ -48,7 +48,7 @@ begun C p D t L slot fine e =
 
 -- a slot at the start of a round
 module _ (t : BoardTables) (L : List ℕ) where
-  pub open_ready : (C : ℕ) → opening_check C t (length L) ≡ Clear
+  pub open_ready : (C : ℕ) → opening_check C t (length L) ≡ Ok tt
       → Ready (record { own = (opening.opened C t (length L)).drive; other = (opening.opened C t (length L)).drive; state = opened_state C t (length L); list = opened_list C t L })
   unfolding opening_check
   open_ready C e =
@@ -58,7 +58,7 @@ module _ (t : BoardTables) (L : List ℕ) where
       let D = idle_board C t.board in
       rw e (begun C 1 D t L (slot_first C D (record { some = z.some; few = z.few; long = o.valid.long })) o.fine long)
 
-  pub read_ready : (S : List ℕ) → reading_check S t (length L) ≡ Clear
+  pub read_ready : (S : List ℕ) → reading_check S t (length L) ≡ Ok tt
       → Ready (record { own = (opening.loaded S t (length L)).drive; other = (opening.loaded S t (length L)).drive; state = loaded_state S t (length L); list = loaded_list S t L })
   read_ready S e =
       let C = capacity_in S in
@@ -67,12 +67,12 @@ module _ (t : BoardTables) (L : List ℕ) where
       rw e (begun C 1 D t L (slot_first C D (read_sized S t.board a.0)) (read_good S t.board a.0) a.1)
 
   -- with the position that the sheet has
-  pub read_pieces_ready : (S : List ℕ) → reading_check_as piece_form S t (length L) ≡ Clear
+  pub read_pieces_ready : (S : List ℕ) → reading_check_as piece_form S t (length L) ≡ Ok tt
       → Ready (record { own = (opening.loaded_as piece_form S t (length L)).drive; other = (opening.loaded_as piece_form S t (length L)).drive; state = opening.loaded_state_as piece_form S t (length L); list = opening.loaded_list_as piece_form S t L })
   read_pieces_ready S e =
       let C = capacity_in S in
       let D = spelled C S ++ drop C t.board in
       let a = loads_accepts piece_form S t L e in
-      let slot : slot_check (drive_at C (position_in S)) D ≡ Clear =
+      let slot : slot_check (drive_at C (position_in S)) D ≡ (Ok tt) =
       slot_parts (drive_at C (position_in S)) D ∙ rw (open_sized C D (read_pieces_sized S t.board a.0)) (read_pieces_position S t.board a.0) in
       rw e (begun C (position_in S) D t L slot (read_pieces_good S t.board a.0) a.1)

@@ -12,7 +12,7 @@ use lib.ListN.{get_or, replicate}
 use borrow.Author.Tests.{lt-ltb}
 use Rattle.sequences.specs.Scanning.{occurrences}
 use Rattle.pieces.specs.Board.{weight, piece_count}
-use Rattle.calls.specs.declared.Check.TheVariants.{Clear}
+use Rattle.std.specs.Prelude.{Ok}
 use Rattle.calls.specs.Records.{round_after}
 use Rattle.calls.specs.Refusals.{first_of, asked_add, admit_may}
 use Rattle.calls.specs.Results.{round_names}
@@ -26,7 +26,7 @@ use Rattle.demands.specs.Holdings.{held_from}
 use Rattle.demands.specs.Rounds.{names, in_a_row, Near, bound}
 use Rattle.waiting.specs.declared.Order.{Order}
 use Rattle.waiting.specs.Layout.{waiting}
-use Rattle.orders.specs.declared.Way.TheVariants as way
+use Rattle.orders.specs.declared.Moment.TheVariants as moment
 use Rattle.orders.specs.Results.{add_order}
 use Rattle.drives.specs.Checks.{both_start}
 use Rattle.shares.specs.States.{fitting}
@@ -169,25 +169,25 @@ module _ (s : Pair) (ready : Ready s) (turns : List Turn) (f : Which) where
     -- An add of w leaves, w being R for an over-allocated one, passes the checks beside ROOM if a round begins, it has a name and a weight, and nothing is held of
     -- the name;
     pub shared_others : (x w : ℕ) → turn.drive.position ≡ 1 → (x ≡ 0 → ⊥) → (w ≡ 0 → ⊥) → held_of x held_in_turn ≡ 0
-        → first_of admit_may (asked_add turn.drive turn.board x w) ≡ Clear
+        → first_of admit_may (asked_add turn.drive turn.board x w) ≡ Ok tt
     shared_others = amended.turn_others (shown pair') held' st.own (map board_order ahead)
 
     -- and then it is refused for ROOM exactly when its weight exceeds C less the sum of the weights held, and else it is done. Refused so, it says that number.
-    pub shared_room : (x w : ℕ) → first_of admit_may (asked_add turn.drive turn.board x w) ≡ Clear
+    pub shared_room : (x w : ℕ) → first_of admit_may (asked_add turn.drive turn.board x w) ≡ Ok tt
         → ((in_turn pair' ahead (add_order x w)).number ≡ cond (ltb (C - total held_in_turn) w) 10 0)
         × ((in_turn pair' ahead (add_order x w)).number ≡ 10 → (in_turn pair' ahead (add_order x w)).values ≡ (C - total held_in_turn) ∷ [])
     unfolding board_order
     shared_room = amended.turn_room (shown pair') held' st.own (map board_order ahead)
 
     -- An over-allocated add goes by R.
-    pub shared_over_room : (x r : ℕ) → first_of admit_may (asked_add turn.drive turn.board x (held_for r)) ≡ Clear
+    pub shared_over_room : (x r : ℕ) → first_of admit_may (asked_add turn.drive turn.board x (held_for r)) ≡ Ok tt
         → ((in_turn pair' ahead (over_order x r)).number ≡ cond (ltb (C - total held_in_turn) (held_for r)) 10 0)
         × ((in_turn pair' ahead (over_order x r)).number ≡ 10 → (in_turn pair' ahead (over_order x r)).values ≡ (C - total held_in_turn) ∷ [])
     unfolding board_order
     shared_over_room x r = amended.turn_room (shown pair') held' st.own (map board_order ahead) x (held_for r)
 
     -- r above 4,095 is more than any room; so is r above 32,768, whose R is 65,536.
-    pub shared_over_large : (x r : ℕ) → 4095 < r → first_of admit_may (asked_add turn.drive turn.board x (held_for r)) ≡ Clear
+    pub shared_over_large : (x r : ℕ) → 4095 < r → first_of admit_may (asked_add turn.drive turn.board x (held_for r)) ≡ Ok tt
         → (in_turn pair' ahead (over_order x r)).number ≡ 10
     shared_over_large x r large e =
         let l = few held' pair' st in
@@ -198,7 +198,7 @@ module _ (s : Pair) (ready : Ready s) (turns : List Turn) (f : Which) where
     shared_carried o = amended.turn_carried (shown pair') held' st.own (map board_order ahead) (board_order o)
 
   -- A change that is made at once is answered so, with none ahead of it.
-  pub shared_at_once : (o : Order) → way_at o pair' ≡ way.Now → answers_own (Changes o) pair' ≡ in_turn pair' [] o
+  pub shared_at_once : (o : Order) → way_at o pair' ≡ Ok moment.Now → answers_own (Changes o) pair' ≡ in_turn pair' [] o
   unfolding acts_of after
   shared_at_once o e = rw e refl
 

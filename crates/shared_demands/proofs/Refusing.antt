@@ -3,7 +3,6 @@ use mathlib.Core.Path.{◌≡◌, refl}
 use mathlib.Core.Bool.{true, false}
 use mathlib.Core.List.{List, [], ◌∷◌}
 use Prim.Native.Nat.{ℕ}
-use native.Mathlib.Omega.{arith}
 use lib.Dec.{eqb}
 use lib.ListN.{length}
 use borrow.Author.Tests.{eqb-false}
@@ -13,7 +12,8 @@ use Rattle.calls.proofs.Laws.{Within, covers, part_within, other_number}
 use Rattle.tables.specs.Sharing.{held_for}
 use Rattle.waiting.specs.declared.Order.{Order}
 use Rattle.waiting.specs.Layout.{too_short}
-use Rattle.orders.specs.declared.Way.TheVariants as way
+use Rattle.orders.specs.declared.Moment.TheVariants as moment
+use Rattle.std.specs.Prelude.{Ok}
 use Rattle.orders.specs.Checks.{order_check, waits_if}
 use Rattle.orders.specs.Results.{add_order, remove_order}
 use Rattle.drives.specs.Checks.{both_start}
@@ -42,7 +42,7 @@ module _ (s : Pair) where
       let q = change_still (way_at o s) s.own s.state s.list o (eqb-false (answers_own (Changes o) s).number 0 h) in
       (q.0, λ n. q.1 (eqb-false (answers_own (Changes o) s).number 13 n))
 
-  first : (o : Order) → way_at o s ≡ way.Now → s.own.position ≡ 1
+  first : (o : Order) → way_at o s ≡ Ok moment.Now → s.own.position ≡ 1
   first o e = (start_both s.own s.other (now_both s.own s.other s.state s.list o e).1).0
 
   -- how a change may be taken: refused by the first checks or those of an order, and made at once only at the start of a round
@@ -106,7 +106,7 @@ module _ (s : Pair) where
   pub demand_1_slot : eqb (answers_own Slots s).number 0 ≡ false → refusing.Refused refusing.slot_may Slots s
   unfolding zero_or
   demand_1_slot h = by_check (first_checks s)
-      (λ e. let z = rw e at h in let y : ◌≡◌ {A = ℕ} 0 1 = cc in absurd (omega arith))
+      (λ e. let z = rw e at h in cc)
       (λ r e.
       let m : zero_or (number_of r) refusing.slot_may ≡ true = rw e at first_within in
       record {

@@ -12,8 +12,8 @@ use Rattle.sequences.specs.SlotOrder.{next_from}
 use Rattle.sequences.specs.Serving.{leaves_from, after_slots}
 use Rattle.sequences.proofs.Laws.{after_more_slots, first_position}
 use Rattle.calls.specs.declared.Drive.{Drive}
-use Rattle.calls.specs.declared.Check.{Check}
-use Rattle.calls.specs.declared.Check.TheVariants.{Clear, Refused}
+use Rattle.calls.specs.Types.{Check}
+use Rattle.std.specs.Prelude.{Ok, Err}
 use Rattle.calls.specs.Records.{round_after}
 use Rattle.calls.specs.Results.{if_clear, moved_on}
 use Rattle.calls.proofs.Laws.{number_some}
@@ -28,8 +28,8 @@ use Rattle.demands.proofs.Laws.{Sound, reached, full_over}
 use Rattle.waiting.specs.declared.Order.{Order}
 use Rattle.waiting.specs.Layout.{waiting}
 use Rattle.waiting.proofs.Laws.{none_waits}
-use Rattle.orders.specs.declared.Way.{Way}
-use Rattle.orders.specs.declared.Way.TheVariants as way
+use Rattle.orders.specs.Types.{Way}
+use Rattle.orders.specs.declared.Moment.TheVariants as moment
 use Rattle.drives.specs.Checks.{both_start}
 use Rattle.drives.proofs.Laws.{start_both, start_swap}
 use Rattle.shares.specs.States.{BoardTables}
@@ -75,8 +75,8 @@ slots_full hs s is first =
 -- ---- a full round gives the leaves of a plain full round from where the list has run
 
 answer_many : (s : Pair) (k : Check) (t : BoardTables) (B : List ℕ) → length (on_leaf (served_answer_by k s.own t) B) ≡ length (name_in (served_answer_by k s.own t))
-answer_many s Clear t B = refl
-answer_many s (Refused r) t B = rw (number_some r) refl
+answer_many s (Ok tt) t B = refl
+answer_many s (Err r) t B = rw (number_some r) refl
 
 one_many : (t : Turn) (s : Pair) → length (leaf_given t s) ≡ length (name_served t s)
 one_many (Own (Changes o)) s = refl
@@ -90,7 +90,7 @@ as_many s [] = refl
 as_many s (t ∷ rest) = length-append (leaf_given t s) (leaves_given (leaves t s) rest)
     ∙ rw (one_many t s, as_many (leaves t s) rest) (sym (length-append (name_served t s) (names_served (leaves t s) rest)))
 
-clear_stands : (s : Pair) (k : Check) → k ≡ Clear → acts_for (if_clear k (due s) []) ++ if_clear k (Slot ∷ []) [] ≡ acts_for (due s) ++ (Slot ∷ [])
+clear_stands : (s : Pair) (k : Check) → k ≡ Ok tt → acts_for (if_clear k (due s) []) ++ if_clear k (Slot ∷ []) [] ≡ acts_for (due s) ++ (Slot ∷ [])
 clear_stands s k e = rw e refl
 
 module _ (hs : List Stream) (s : Pair) (is : Standing hs s) (rest : List Turn) (full : FullRound s rest) where
@@ -142,21 +142,21 @@ module _ (s : Pair) (away : s.own.position ≡ 1 → ⊥) where
   not_turned = start_swap s.other s.own ∙ not_both
 
   own_kept : (o : Order) (k : Way) → way_at o s ≡ k → Kept s.state (state_by k (carried_state s.own s.state o) s.state)
-  own_kept o (way.Refused r) e = record { board = refl; rates = refl; owed = refl }
-  own_kept o way.Wait e = record { board = refl; rates = refl; owed = refl }
-  own_kept o way.Now e = absurd (away (start_both s.own s.other (now_both s.own s.other s.state s.list o e).1).0)
+  own_kept o (Err r) e = record { board = refl; rates = refl; owed = refl }
+  own_kept o (Ok moment.Later) e = record { board = refl; rates = refl; owed = refl }
+  own_kept o (Ok moment.Now) e = absurd (away (start_both s.own s.other (now_both s.own s.other s.state s.list o e).1).0)
 
   change_kept : (o : Order) (k : Way) → way_at o (exchanged s) ≡ k
       → Kept s.state (exchanged (record { own = s.other; other = s.own; state = state_by k (carried_state s.other (exchanged s).state o) (exchanged s).state; list = [] })).state
-  change_kept o (way.Refused r) e = record { board = refl; rates = refl; owed = refl }
-  change_kept o way.Wait e = record { board = refl; rates = refl; owed = refl }
-  change_kept o way.Now e = absurd (away (start_both s.other s.own (now_both s.other s.own (exchanged s).state s.list o e).1).1)
+  change_kept o (Err r) e = record { board = refl; rates = refl; owed = refl }
+  change_kept o (Ok moment.Later) e = record { board = refl; rates = refl; owed = refl }
+  change_kept o (Ok moment.Now) e = absurd (away (start_both s.other s.own (now_both s.other s.own (exchanged s).state s.list o e).1).1)
 
   slot_kept : (k : Check)
       → Kept s.state (exchanged (record { own = s.other; other = s.own; state = if_clear k (turn_state s.other (ran_state' (exchanged s))) (exchanged s).state; list = [] })).state
   unfolding state_then
-  slot_kept Clear = rw not_turned (record { board = refl; rates = refl; owed = refl })
-  slot_kept (Refused r) = record { board = refl; rates = refl; owed = refl }
+  slot_kept (Ok tt) = rw not_turned (record { board = refl; rates = refl; owed = refl })
+  slot_kept (Err r) = record { board = refl; rates = refl; owed = refl }
 
   other_kept : (a : Deed) → Kept s.state (leaves (Other a) s).state
   other_kept (Changes o) = change_kept o (way_at o (exchanged s)) refl
@@ -168,7 +168,7 @@ module _ (s : Pair) (away : s.own.position ≡ 1 → ⊥) where
   own_state = rw not_both refl
 
 -- a slot that is not refused
-slot_leaves : (s : Pair) → first_checks s ≡ Clear
+slot_leaves : (s : Pair) → first_checks s ≡ Ok tt
     → ((leaves (Own Slots) s).own ≡ moved_on s.own) × ((leaves (Own Slots) s).state ≡ turn_state s.own (ran_state' s)) × (name_served (Own Slots) s ≡ turn_name s.own (ran_state' s) ∷ [])
 slot_leaves s e = rw e (refl, refl, refl)
 

@@ -11,7 +11,7 @@ use borrow.Author.Tests.{lt-ltb, le-ltb, eq-eqb}
 use Rattle.general.proofs.Laws.{by_bool}
 use Rattle.pieces.specs.Board.{good}
 use Rattle.calls.specs.declared.Drive.{Drive}
-use Rattle.calls.specs.declared.Check.TheVariants.{Clear}
+use Rattle.std.specs.Prelude.{Ok, Err}
 use Rattle.calls.specs.Results.{moved_on}
 use Rattle.tables.proofs.Laws.{fits_parts, fits_first, first_fits, fits_swap}
 use Rattle.demands.specs.Histories as plainly
@@ -21,8 +21,8 @@ use Rattle.waiting.specs.declared.Outcome.{Outcome}
 use Rattle.waiting.specs.Layout.{least, answers_in, orders_in, places_in, waiting, counted, answered_from, settled, taken_list}
 use Rattle.waiting.specs.Carrying.{carried_all, outcomes}
 use Rattle.waiting.proofs.Laws.{run_length, none_waits, least_small}
-use Rattle.orders.specs.declared.Way.{Way}
-use Rattle.orders.specs.declared.Way.TheVariants as way
+use Rattle.orders.specs.Types.{Way}
+use Rattle.orders.specs.declared.Moment.TheVariants as moment
 use Rattle.orders.specs.Results.{list_by}
 use Rattle.drives.specs.Checks.{both_start}
 use Rattle.drives.proofs.Laws.{start_both}
@@ -86,9 +86,9 @@ said_both d t (o ∷ os) =
     ap (λ (rs : List Outcome). saying d o t ∷ rs) (ap (λ (u : BoardTables). outcomes (doing d) (saying d) u os) (carried_both d t o) ∙ said_both d (carried_state d t o) os)
 
 way_both : (d : Drive) (t : BoardTables) (o : Order) (k : Way) → state_by k (carried_state d (both t) o) (both t) ≡ both (state_by k (carried_state d t o) t)
-way_both d t o (way.Refused r) = refl
-way_both d t o way.Wait = refl
-way_both d t o way.Now = carried_both d t o
+way_both d t o (Err r) = refl
+way_both d t o (Ok moment.Later) = refl
+way_both d t o (Ok moment.Now) = carried_both d t o
 
 -- ---- what a call is given passes the first checks, and goes on passing them
 
@@ -135,10 +135,10 @@ module _ (s : One) (is : Fit s) where
   abbrev L : List ℕ
   L = s.list
 
-  pub one_clear : first_checks (twice s) ≡ Clear
+  pub one_clear : first_checks (twice s) ≡ Ok tt
   one_clear = lent_share d d t (length L) is
 
-  pub step_clear : first_checks (in_step s) ≡ Clear
+  pub step_clear : first_checks (in_step s) ≡ Ok tt
   step_clear =
       let b = both_tabled d.capacity t (tabled s is) in
       lent_share d d (both t) (length L) (record { own = is.own; other = is.other; same = is.same; long = is.long; rates = b.rates; owed = b.owed; others = b.other; fit = b.fit })
@@ -218,7 +218,7 @@ module _ (s : One) (is : Fit s) where
   one_slot = rw one_clear refl
 
   -- the other's slot finds the same board, the same deficits, and nothing that waits
-  mid_clear : first_checks (exchanged mid) ≡ Clear
+  mid_clear : first_checks (exchanged mid) ≡ Ok tt
   mid_clear =
       let b = turn_tabled d (both r) sound.valid.at (both_tabled d.capacity r ran_tabled) in
       let v : Valid (state_at (moved_on d) r.board) = subst (λ (u : One). Valid (shown (twice u))) one_slot (one_valid Slots) in

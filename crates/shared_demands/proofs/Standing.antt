@@ -8,7 +8,7 @@ use native.Mathlib.Omega.{arith}
 use lib.ListN.{length}
 use Rattle.general.proofs.Laws.{by_bool}
 use Rattle.pieces.specs.Board.{good}
-use Rattle.calls.specs.declared.Check.TheVariants.{Clear}
+use Rattle.std.specs.Prelude.{Ok, Err}
 use Rattle.calls.proofs.Laws.{either_length}
 use Rattle.tables.specs.Sharing.{all_zero}
 use Rattle.tables.proofs.Laws.{zero_elim, fits_parts}
@@ -20,8 +20,8 @@ use Rattle.waiting.specs.declared.Order.{Order}
 use Rattle.waiting.specs.Layout.{waiting}
 use Rattle.waiting.specs.Carrying.{carried_all, outcomes}
 use Rattle.waiting.proofs.Laws.{run_length, fetch_length}
-use Rattle.orders.specs.declared.Way.{Way}
-use Rattle.orders.specs.declared.Way.TheVariants as way
+use Rattle.orders.specs.Types.{Way}
+use Rattle.orders.specs.declared.Moment.TheVariants as moment
 use Rattle.drives.specs.Checks.{both_start}
 use Rattle.drives.proofs.Laws.{start_both}
 use Rattle.shares.specs.States.{BoardTables}
@@ -83,7 +83,7 @@ module _ (hs : List Stream) (s : Pair) (is : Standing hs s) where
   few = let f = is.own.valid.at.few in omega arith
 
   -- the first checks find nothing
-  pub first_clear : first_checks s ≡ Clear
+  pub first_clear : first_checks s ≡ Ok tt
   first_clear =
       let t = is.fine.tables in
       lent_share s.own s.other s.state (length s.list) (record {
@@ -111,9 +111,9 @@ module _ (hs : List Stream) (s : Pair) (is : Standing hs s) where
 
   change_fine : (o : Order) (k : Way) → way_at o s ≡ k → Tabling C s.own.position s.other.position (state_by k (carried_state s.own s.state o) s.state)
   unfolding carried_all
-  change_fine o (way.Refused r) e = is.fine
-  change_fine o way.Wait e = is.fine
-  change_fine o way.Now e = orders_fine (now_both s.own s.other s.state s.list o e).1 (o ∷ [])
+  change_fine o (Err r) e = is.fine
+  change_fine o (Ok moment.Later) e = is.fine
+  change_fine o (Ok moment.Now) e = orders_fine (now_both s.own s.other s.state s.list o e).1 (o ∷ [])
 
   own_fine : (a : Deed) → Tabling (leaves_own a s).own.capacity (leaves_own a s).own.position s.other.position (leaves_own a s).state
   own_fine (Changes o) = change_fine o (way_at o s) refl

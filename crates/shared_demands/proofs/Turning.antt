@@ -10,8 +10,8 @@ use lib.Dec.{eqb}
 use lib.ListN.{length}
 use Rattle.general.proofs.Laws.{by_bool}
 use Rattle.calls.specs.declared.Drive.{Drive}
-use Rattle.calls.specs.declared.Check.{Check}
-use Rattle.calls.specs.declared.Check.TheVariants.{Clear, Refused}
+use Rattle.calls.specs.Types.{Check}
+use Rattle.std.specs.Prelude.{Ok, Err}
 use Rattle.calls.specs.Refusals.{slot_check}
 use Rattle.calls.specs.Results.{if_clear, moved_on}
 use Rattle.calls.proofs.Laws.{number_some}
@@ -24,8 +24,8 @@ use Rattle.demands.proofs.Laws.{state_at, slot_clear, clear_valid, same_either, 
 use Rattle.waiting.specs.declared.Order.{Order}
 use Rattle.waiting.specs.Layout.{waiting}
 use Rattle.waiting.specs.Carrying.{carried_all}
-use Rattle.orders.specs.declared.Way.{Way}
-use Rattle.orders.specs.declared.Way.TheVariants as way
+use Rattle.orders.specs.Types.{Way}
+use Rattle.orders.specs.declared.Moment.TheVariants as moment
 use Rattle.orders.specs.Results as orders
 use Rattle.orders.proofs.Laws.{all_length}
 use Rattle.drives.specs.Checks.{both_start}
@@ -65,14 +65,14 @@ due_ran s = by_bool (both_start s.own s.other) (λ t. rw t refl) (λ f. rw f ref
 
 pub way_state : (d : Drive) (t : BoardTables) (o : Order) (k : Way) → state_by k (carried_state d t o) t ≡ carried_all (doing d) t (if_now k o)
 unfolding carried_all
-way_state d t o (way.Refused r) = refl
-way_state d t o way.Wait = refl
-way_state d t o way.Now = refl
+way_state d t o (Err r) = refl
+way_state d t o (Ok moment.Later) = refl
+way_state d t o (Ok moment.Now) = refl
 
 slot_board : (s : Pair) (k : Check) → (if_clear k (turn_state s.own (ran_state' s)) s.state).board ≡ (carried_all (doing s.own) s.state (if_clear k (due s) [])).board
 unfolding carried_all
-slot_board s Clear = ap (λ (t : BoardTables). t.board) (due_ran s)
-slot_board s (Refused r) = refl
+slot_board s (Ok tt) = ap (λ (t : BoardTables). t.board) (due_ran s)
+slot_board s (Err r) = refl
 
 own_board : (a : Deed) (s : Pair) → (leaves_own a s).state.board ≡ carried_all (orders.doing s.own) s.state.board (map board_order (carries_out a s))
 unfolding carried_all
@@ -84,7 +84,7 @@ own_board (Fetches t) s = refl
 
 module _ {X : Type 0} (f : Drive → List Order → X) (none : (a b : Drive) → f a [] ≡ f b [])
     (some : (a b : Drive) → a.capacity ≡ b.capacity → a.position ≡ b.position → (os : List Order) → f a os ≡ f b os) where
-  both : (s : Pair) → first_checks s ≡ Clear → both_start s.own s.other ≡ true → (s.own.capacity ≡ s.other.capacity) × (s.own.position ≡ s.other.position)
+  both : (s : Pair) → first_checks s ≡ Ok tt → both_start s.own s.other ≡ true → (s.own.capacity ≡ s.other.capacity) × (s.own.position ≡ s.other.position)
   both s e t =
       let p = start_both s.own s.other t in
       ((share_lent s.own s.other s.state (length s.list) e).same, p.0 ∙ sym p.1)
@@ -122,7 +122,7 @@ due_state s = amended.carry_all s.own s.state.board (map board_order (due s))
 
 -- ---- what a call is beside: a slot of its own drive
 
-then_slot : (s : Pair) → first_checks s ≡ Clear → slot_check s.own (ran_state' s).board ≡ Clear
+then_slot : (s : Pair) → first_checks s ≡ Ok tt → slot_check s.own (ran_state' s).board ≡ Ok tt
 then_slot s e =
     let v = clear_valid (shown s) (share_lent s.own s.other s.state (length s.list) e).own in
     let long = v.long in
@@ -135,8 +135,8 @@ slot_alone : (s : Pair) (k : Check) → first_checks s ≡ k
     → after (state_at s.own (if_clear k (turn_state s.own (ran_state' s)) s.state).board) (if_clear k (Slot ∷ []) [])
     ≡ state_at (if_clear k (moved_on s.own) s.own) (if_clear k (turn_state s.own (ran_state' s)) s.state).board
 unfolding after
-slot_alone s Clear e = rw (then_slot s e) refl
-slot_alone s (Refused r) e = refl
+slot_alone s (Ok tt) e = rw (then_slot s e) refl
+slot_alone s (Err r) e = refl
 
 own_alone : (a : Deed) (s : Pair) → after (state_at s.own (leaves_own a s).state.board) (alone a s) ≡ shown (leaves_own a s)
 unfolding after
@@ -168,8 +168,8 @@ slot_given : (s : Pair) (k : Check) → first_checks s ≡ k
     → on_leaf (served_answer_by k s.own (ran_state' s)) (if_clear k (turn_state s.own (ran_state' s)) s.state).board
     ≡ names (log (state_at s.own (if_clear k (turn_state s.own (ran_state' s)) s.state).board) (if_clear k (Slot ∷ []) []))
 unfolding names log
-slot_given s (Refused r) e = rw (number_some r) refl
-slot_given s Clear e = rw (then_slot s e) refl
+slot_given s (Err r) e = rw (number_some r) refl
+slot_given s (Ok tt) e = rw (then_slot s e) refl
 
 own_given : (a : Deed) (s : Pair) → given_own a s ≡ names (log (state_at s.own (leaves_own a s).state.board) (alone a s))
 unfolding names log
@@ -191,8 +191,8 @@ given_same s turns = amended.names_projected leaves shown stands_for (λ t u. Un
 
 look_held : (hs : List Stream) (u : plainly.State) (k : Check) → held_from hs (log u (if_clear k (Slot ∷ []) [])) ≡ hs
 unfolding held_from log
-look_held hs u Clear = same_either (eqb (says Slot u).number 0) hs
-look_held hs u (Refused r) = refl
+look_held hs u (Ok tt) = same_either (eqb (says Slot u).number 0) hs
+look_held hs u (Err r) = refl
 
 alone_held : (hs : List Stream) (u : plainly.State) (a : Deed) (s : Pair) → held_from hs (log u (alone a s)) ≡ hs
 unfolding held_from log

@@ -1,9 +1,8 @@
 -- What is held, and what a history may begin with: request No. 7 over the calls of two drives.
 -- Assumes nothing.
-use Rattle.std.specs.Prelude.{◌≡◌, true, cond, ◌&&◌, List, [], ◌∷◌, map, ℕ, ◌+◌, ◌*◌, eqb}
+use Rattle.std.specs.Prelude.{◌≡◌, true, cond, ◌&&◌, List, [], ◌∷◌, map, ℕ, ◌+◌, ◌*◌, eqb, Ok}
 use Rattle.std.specs.Int.Count.{ones}
 use Rattle.calls.specs.declared.Drive.{Drive}
-use Rattle.calls.specs.declared.Check.TheVariants.{Clear}
 use Rattle.calls.specs.Answers.{Answer}
 use Rattle.tables.specs.Sharing.{all_zero}
 use Rattle.demands.specs.Histories.{log}
@@ -72,7 +71,7 @@ streams_on s = holding.on_board (shown s)
 -- What a history may begin with: records, board, tables and list pass the first checks, and no stream is over-allocated. Every open and every read that is done
 -- leaves such, since it clears the tables.
 pub record Ready (s : Pair) : Type 0 where
-  pub clear : first_checks s ≡ Clear
+  pub clear : first_checks s ≡ Ok tt
   pub none : all_zero s.own.capacity s.state.rates ≡ true
 
 -- C + R h, with h ones in C: the bound of demand 3 for one piece of R leaves.

@@ -5,14 +5,14 @@
 -- Assumes nothing.
 use Rattle.std.specs.Prelude.{◌≡◌, cond, List, [], ◌∷◌, ◌++◌, map, ℕ, eqb, length, get_or}
 use Rattle.calls.specs.declared.Drive.{Drive}
-use Rattle.calls.specs.declared.Check.{Check}
+use Rattle.calls.specs.Types.{Check}
 use Rattle.calls.specs.Answers.{Answer}
 use Rattle.calls.specs.Results.{if_clear}
 use Rattle.demands.specs.Histories.{Act, Slot}
 use Rattle.demands.specs.Histories as plainly
 use Rattle.waiting.specs.declared.Order.{Order}
 use Rattle.waiting.specs.Layout.{waiting, fetched, fetched_list}
-use Rattle.orders.specs.declared.Way.{Way}
+use Rattle.orders.specs.Types.{Way}
 use Rattle.orders.specs.Answers.{fetching_answer}
 use Rattle.drives.specs.Checks.{both_start}
 use Rattle.shares.specs.States.{BoardTables, lent}

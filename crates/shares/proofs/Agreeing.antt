@@ -11,8 +11,8 @@ use Rattle.pieces.specs.Board.{good}
 use Rattle.sequences.proofs.Laws.{leaf_below_lem}
 use Rattle.tables.proofs.Laws.{Zero, plain_fits, plain_settled, plain_turn}
 use Rattle.calls.specs.declared.Drive.{Drive}
-use Rattle.calls.specs.declared.Check.{Check}
-use Rattle.calls.specs.declared.Check.TheVariants.{Clear, Refused}
+use Rattle.calls.specs.Types.{Check}
+use Rattle.std.specs.Prelude.{Ok, Err}
 use Rattle.calls.specs.Refusals.{remove_check}
 use Rattle.calls.specs.Results.{if_clear, removed_board, served_leaf}
 use Rattle.calls.proofs.Laws.{slot_position, then_none}
@@ -21,8 +21,8 @@ use Rattle.waiting.specs.declared.Order.{Order}
 use Rattle.waiting.specs.declared.Outcome.{Outcome}
 use Rattle.waiting.specs.Layout.{too_short, waiting, settled, taken_list}
 use Rattle.waiting.specs.Carrying.{carried_all, outcomes}
-use Rattle.orders.specs.declared.Way.{Way}
-use Rattle.orders.specs.declared.Way.TheVariants as way
+use Rattle.orders.specs.Types.{Way}
+use Rattle.orders.specs.declared.Moment.TheVariants as moment
 use Rattle.orders.specs.Checks.{order_check, waits_if, way_by}
 use Rattle.orders.specs.Results as plain
 use Rattle.drives.specs.Checks as pair
@@ -47,8 +47,8 @@ module _ (d : Drive) (T E F : List ℕ) (t : Zero d.capacity T) (e : Zero d.capa
   after_zero B x S z = rw (plain_settled d.capacity S z B (tidying.removed d.capacity B x)) (either (remove_check d B x))
     where
       either : (k : Check) → if_clear k S S ≡ S
-      either Clear = refl
-      either (Refused r) = refl
+      either (Ok tt) = refl
+      either (Err r) = refl
 
   removes : (B : List ℕ) (o : Order) → o.kind ≡ 2 → plain.carried_board d B o ≡ removed_board d B o.name
   unfolding plain.carried_board
@@ -73,15 +73,15 @@ module _ (d : Drive) (T E F : List ℕ) (t : Zero d.capacity T) (e : Zero d.capa
       (ap (λ (s : BoardTables). outcomes (doing d) (saying d) s os) (one_state B o p.0) ∙ all_said (plain.carried_board d B o) os p.1)
 
   -- a turn
-  turn_served : (k : Check) (D : List ℕ) → (k ≡ Clear → served_leaf d < d.capacity)
+  turn_served : (k : Check) (D : List ℕ) → (k ≡ Ok tt → served_leaf d < d.capacity)
       → (served_by k d (lent D T E F) ≡ plain.served_by k d D) × (served_answer_by k d (lent D T E F) ≡ plain.served_answer_by k d D)
-  turn_served (Refused r) D h = (refl, refl)
-  turn_served Clear D h = let p = plain_turn d.capacity D T t E (served_leaf d) (h refl) in (rw p.0 refl, rw p.0 refl)
+  turn_served (Err r) D h = (refl, refl)
+  turn_served (Ok tt) D h = let p = plain_turn d.capacity D T t E (served_leaf d) (h refl) in (rw p.0 refl, rw p.0 refl)
 
-  turn_left : (k : Check) (D B : List ℕ) → (k ≡ Clear → served_leaf d < d.capacity)
+  turn_left : (k : Check) (D B : List ℕ) → (k ≡ Ok tt → served_leaf d < d.capacity)
       → if_clear k (turn_state d (lent D T E F)) (lent B T E F) ≡ lent (if_clear k D B) T E F
-  turn_left (Refused r) D B h = refl
-  turn_left Clear D B h = let p = plain_turn d.capacity D T t E (served_leaf d) (h refl) in rw p.1 refl
+  turn_left (Err r) D B h = refl
+  turn_left (Ok tt) D B h = let p = plain_turn d.capacity D T t E (served_leaf d) (h refl) in rw p.1 refl
 
 -- ---- the calls
 
@@ -98,9 +98,9 @@ module _ (a b : Drive) (B T E F L : List ℕ) (t : Zero a.capacity T) (e : Zero 
 
   state_by_lem : (k : Way) (o : Order) → (o.kind ≡ 3 → ⊥)
       → state_by k (carried_state a (lent B T E F) o) (lent B T E F) ≡ lent (plain.board_by k (plain.carried_board a B o) B) T E F
-  state_by_lem (way.Refused r) o n = refl
-  state_by_lem way.Wait o n = refl
-  state_by_lem way.Now o n = one_state a T E F t e f B o n
+  state_by_lem (Err r) o n = refl
+  state_by_lem (Ok moment.Later) o n = refl
+  state_by_lem (Ok moment.Now) o n = one_state a T E F t e f B o n
 
   -- and so is a change that is no over-allocated add,
   pub change_two_is_shared : (o : Order) → (o.kind ≡ 3 → ⊥)
@@ -141,7 +141,7 @@ module _ (a b : Drive) (B T E F L : List ℕ) (t : Zero a.capacity T) (e : Zero 
       let k = pair.list_check a b B (length L) in
       let c : list_check a b (lent B T E F) (length L) ≡ pair.list_check a b B (length L) = check_agrees (too_short (length L)) in
       let z = state_then_lem p in
-      let below : pair.list_check a b B (length L) ≡ Clear → served_leaf a < a.capacity = λ h. leaf_below_lem a.capacity a.position (slot_position a B (pair_clear a b B (too_short (length L)) h).own) in
+      let below : pair.list_check a b B (length L) ≡ Ok tt → served_leaf a < a.capacity = λ h. leaf_below_lem a.capacity a.position (slot_position a B (pair_clear a b B (too_short (length L)) h).own) in
       let s = turn_served a T E F t e f k (drives.board_then a b B L) below in (
         ap₂ (λ (j : Check) (u : BoardTables). served_by j a u) c z ∙ s.0,
         ap₂ (λ (j : Check) (u : BoardTables). served_answer_by j a u) c z ∙ s.1,

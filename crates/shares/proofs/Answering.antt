@@ -10,14 +10,14 @@ use Rattle.general.proofs.Laws.{by_bool}
 use Rattle.tables.specs.Sharing.{held_for}
 use Rattle.calls.specs.declared.Drive.{Drive}
 use Rattle.calls.specs.declared.Refusal.TheVariants.{Midround, Damaged}
-use Rattle.calls.specs.declared.Check.{Check}
-use Rattle.calls.specs.declared.Check.TheVariants.{Clear}
+use Rattle.calls.specs.Types.{Check}
+use Rattle.std.specs.Prelude.{Ok, Err}
 use Rattle.calls.specs.Refusals.{zero_or, refuse_if, and_then, asked_add, asked_name, add_may, remove_may, add_check, remove_check}
 use Rattle.calls.proofs.Laws.{refusal, Within, then_within, if_within, covers, part_within, ascending}
 use Rattle.waiting.specs.declared.Order.{Order}
 use Rattle.waiting.specs.Layout.{too_short, full, taken_list}
-use Rattle.orders.specs.declared.Way.{Way}
-use Rattle.orders.specs.declared.Way.TheVariants as way
+use Rattle.orders.specs.Types.{Way}
+use Rattle.orders.specs.declared.Moment.TheVariants as moment
 use Rattle.orders.specs.Checks.{order_check, waits_if}
 use Rattle.orders.specs.Results as plain
 use Rattle.orders.specs.Results.{add_order, remove_order}
@@ -42,7 +42,7 @@ module _ (a b : Drive) (s : BoardTables) (t : Bool) where
   unfolding share_check covers zero_or
   share_within =
       let ns : List ℕ = 1 ∷ 2 ∷ 3 ∷ 5 ∷ [] in
-      pair_then ns (fit_check a.capacity s) refl (if_within ns (not (fitting a.capacity s)) Damaged Clear refl refl)
+      pair_then ns (fit_check a.capacity s) refl (if_within ns (not (fitting a.capacity s)) Damaged (Ok tt) refl refl)
 
   -- and 4 too, of a call that is made at one place.
   pub placed_within : (there : Bool) → Within (1 ∷ 2 ∷ 3 ∷ 4 ∷ 5 ∷ []) (placed_check there a b s t)
@@ -50,7 +50,7 @@ module _ (a b : Drive) (s : BoardTables) (t : Bool) where
   placed_within there =
       let ns : List ℕ = 1 ∷ 2 ∷ 3 ∷ 4 ∷ 5 ∷ [] in
       pair_then ns (refuse_if (not there) Midround (fit_check a.capacity s)) refl
-      (if_within ns (not there) Midround (fit_check a.capacity s) refl (if_within ns (not (fitting a.capacity s)) Damaged Clear refl refl))
+      (if_within ns (not there) Midround (fit_check a.capacity s) refl (if_within ns (not (fitting a.capacity s)) Damaged (Ok tt) refl refl))
 
 module _ (a b : Drive) (s : BoardTables) (L : List ℕ) where
   -- A change answers what the first checks, an order that is to wait, the list and the change made at position 1 answer.
@@ -61,11 +61,11 @@ module _ (a b : Drive) (s : BoardTables) (L : List ℕ) where
   change_within ns o c queue waits m now = go (way_of a b s L o) refl
     where
       go : (k : Way) → way_of a b s L o ≡ k → zero_or (plain.changed_answer_by k a s.board L (board_order o)).number ns ≡ true
-      go (way.Refused r) e =
+      go (Err r) e =
           way_within ns (list_check a b s (length L)) (waits_if (both_start a b) L) (order_check a.capacity s.board o) r
           (part_within ns (1 ∷ 2 ∷ 3 ∷ 5 ∷ []) (list_check a b s (length L)) c (share_within a b s (too_short (length L)))) m e
-      go way.Wait e = by_bool (full L) (λ f. rw f queue) (λ f. rw f waits)
-      go way.Now e = now (now_ready a b s L o e).1
+      go (Ok moment.Later) e = by_bool (full L) (λ f. rw f queue) (λ f. rw f waits)
+      go (Ok moment.Now) e = now (now_ready a b s L o e).1
 
   pub add_answers : (x w : ℕ) → zero_or (changed_answer a b s L (add_order x w)).number (1 ∷ 2 ∷ 3 ∷ 5 ∷ 6 ∷ 7 ∷ 14 ∷ 13 ∷ 8 ∷ 10 ∷ []) ≡ true
   unfolding plain.carried_answer add_check covers ascending board_order
@@ -124,6 +124,6 @@ module _ (d : Drive) (s : BoardTables) (o : Order) where
 -- It leaves the state as it was, and the list too unless it answers 13.
 pub change_still : (k : Way) (a : Drive) (s : BoardTables) (L : List ℕ) (o : Order) → ((plain.changed_answer_by k a s.board L (board_order o)).number ≡ 0 → ⊥)
     → (state_by k (carried_state a s o) s ≡ s) × (((plain.changed_answer_by k a s.board L (board_order o)).number ≡ 13 → ⊥) → plain.list_by k (taken_list L o) L ≡ L)
-change_still (way.Refused r) a s L o h = (refl, λ n. refl)
-change_still way.Wait a s L o h = (refl, λ n. by_bool (full L) (λ f. rw f refl) (λ f. absurd (n (rw f refl))))
-change_still way.Now a s L o h = (carried_stays a s o h, λ n. refl)
+change_still (Err r) a s L o h = (refl, λ n. refl)
+change_still (Ok moment.Later) a s L o h = (refl, λ n. by_bool (full L) (λ f. rw f refl) (λ f. absurd (n (rw f refl))))
+change_still (Ok moment.Now) a s L o h = (carried_stays a s o h, λ n. refl)

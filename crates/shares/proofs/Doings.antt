@@ -19,11 +19,9 @@ use Rattle.tables.specs.Settling.{settled_table, rated_table, Alike}
 use Rattle.tables.proofs.Laws.{placed_fits, over_fits, removed_fits, settled_length, settled_told, rated_length}
 use Rattle.calls.specs.declared.Drive.{Drive}
 use Rattle.calls.specs.declared.Refusal.{Refusal}
-use Rattle.calls.specs.declared.Check.{Check}
-use Rattle.calls.specs.declared.Check.TheVariants.{Clear, Refused}
-use Rattle.calls.specs.declared.Change.{Change}
-use Rattle.calls.specs.declared.Change.TheVariants as change
-use Rattle.calls.specs.declared.Changed.{Changed}
+use Rattle.calls.specs.Types.{Check, Changed}
+use Rattle.std.specs.Prelude.{Ok, Err}
+use Rattle.calls.specs.declared.Unchanged.{Unchanged}
 use Rattle.calls.specs.Refusals.{number_of, applies, first_of, add_check, remove_check}
 use Rattle.calls.specs.Results as calls
 use Rattle.calls.specs.Results.{if_clear, admitted_by, change_by}
@@ -154,15 +152,15 @@ module _ (d : Drive) (s : BoardTables) (long : d.capacity ≤ length s.rates) (f
     where
       go : (k : Check) → remove_check d s.board x ≡ k
           → fitting d.capacity (lent (calls.removed_board d s.board x) (if_clear (remove_check d s.board x) (settled_table d.capacity s.board (tidying.removed d.capacity s.board x) s.rates) s.rates) (if_clear (remove_check d s.board x) (settled_table d.capacity s.board (tidying.removed d.capacity s.board x) s.owed) s.owed) (if_clear (remove_check d s.board x) (settled_table d.capacity s.board (tidying.removed d.capacity s.board x) s.other) s.other)) ≡ true
-      go Clear e = rw e (removed_fits d.capacity s.board s.rates (s.owed ∷ s.other ∷ []) fit long x (remove_clear d s.board x e))
-      go (Refused r) e = rw e fit
+      go (Ok tt) e = rw e (removed_fits d.capacity s.board s.rates (s.owed ∷ s.other ∷ []) fit long x (remove_clear d s.board x e))
+      go (Err r) e = rw e fit
 
   add_fits : (x w : ℕ) → fitting d.capacity (lent (calls.added_board d s.board x w) s.rates s.owed s.other) ≡ true
   add_fits x w = go (add_check d s.board x w) refl
     where
       go : (k : Check) → add_check d s.board x w ≡ k → fitting d.capacity (lent (calls.added_board d s.board x w) s.rates s.owed s.other) ≡ true
-      go Clear e = rw e (placed_fits d.capacity s.board s.rates (s.owed ∷ s.other ∷ []) fit x w (add_clear d s.board x w e))
-      go (Refused r) e = rw e fit
+      go (Ok tt) e = rw e (placed_fits d.capacity s.board s.rates (s.owed ∷ s.other ∷ []) fit x w (add_clear d s.board x w e))
+      go (Err r) e = rw e fit
 
   add_over_fits : (x r : ℕ) → fitting d.capacity (lent (calls.added_board d s.board x (held_for r)) (rates_after d s.board x r s.rates) s.owed s.other) ≡ true
   unfolding rates_after
@@ -170,9 +168,9 @@ module _ (d : Drive) (s : BoardTables) (long : d.capacity ≤ length s.rates) (f
     where
       go : (k : Check) → add_check d s.board x (held_for r) ≡ k
           → fitting d.capacity (lent (calls.added_board d s.board x (held_for r)) (if_clear (add_check d s.board x (held_for r)) (rated_table d.capacity (placed d.capacity s.board x (held_for r)) s.rates x r) s.rates) s.owed s.other) ≡ true
-      go Clear e =
+      go (Ok tt) e =
           rw e (over_fits d.capacity s.board s.rates (s.owed ∷ s.other ∷ []) fit x r (add_clear d s.board x (held_for r) e) (add_weight d s.board x (held_for r) e) long)
-      go (Refused q) e = rw e fit
+      go (Err q) e = rw e fit
 
   plain_fits : (o : Order) → (o.kind ≡ 2 → ⊥) → fitting d.capacity (lent (plain.carried_board d s.board o) s.rates s.owed s.other) ≡ true
   unfolding plain.carried_board
@@ -228,7 +226,7 @@ module _ (d : Drive) (B : List ℕ) (x : ℕ) where
     | no l ↦ let z : n ≡ h = omega arith in ap (λ (w : ℕ). add_check d B x w) z
   ]
 
-  asked_same : (h n : ℕ) → n ≡ min h 65535 → add_check d B x h ≡ Clear → n ≡ h
+  asked_same : (h n : ℕ) → n ≡ min h 65535 → add_check d B x h ≡ Ok tt → n ≡ h
   asked_same h n is e =
       let p = add_clear d B x h e in
       let few = p.small in
@@ -240,35 +238,29 @@ module _ (d : Drive) (B : List ℕ) (x : ℕ) where
   added_same h n is = go (add_check d B x h) refl
     where
       go : (k : Check) → add_check d B x h ≡ k → ((calls.added d B x n).answer ≡ (calls.added d B x h).answer) × (calls.added_board d B x n ≡ calls.added_board d B x h)
-      go Clear e = let z = asked_same h n is e in (ap (λ (w : ℕ). (calls.added d B x w).answer) z, ap (λ (w : ℕ). calls.added_board d B x w) z)
-      go (Refused r) e = let f = asked_check h n is ∙ e in (rw (e, f) refl, rw (e, f) refl)
+      go (Ok tt) e = let z = asked_same h n is e in (ap (λ (w : ℕ). (calls.added d B x w).answer) z, ap (λ (w : ℕ). calls.added_board d B x w) z)
+      go (Err r) e = let f = asked_check h n is ∙ e in (rw (e, f) refl, rw (e, f) refl)
 
 -- ---- what an answer tells of the checks
 
-admitted_done : (k : Check) (left idle n : ℕ) → admitted_by k left idle ≡ change.Done n → k ≡ Clear
-admitted_done Clear left idle n e = refl
-admitted_done (Refused r) left idle n e = by_bool (eqb (number_of r) 10)
+admitted_done : (k : Check) (left idle n : ℕ) → admitted_by k left idle ≡ Ok n → k ≡ Ok tt
+admitted_done (Ok tt) left idle n e = refl
+admitted_done (Err r) left idle n e = by_bool (eqb (number_of r) 10)
     (λ t. let f = rw t at e in let z : ◌≡◌ {A = ℕ} 0 1 = cc in absurd (omega arith))
     (λ t. let f = rw t at e in let z : ◌≡◌ {A = ℕ} 0 1 = cc in absurd (omega arith))
 
-changed_done : (k : Check) (idle n : ℕ) → change_by k idle ≡ change.Done n → k ≡ Clear
-changed_done Clear idle n e = refl
-changed_done (Refused r) idle n e = let z : ◌≡◌ {A = ℕ} 0 1 = cc in absurd (omega arith)
+changed_done : (k : Check) (idle n : ℕ) → change_by k idle ≡ Ok n → k ≡ Ok tt
+changed_done (Ok tt) idle n e = refl
+changed_done (Err r) idle n e = let z : ◌≡◌ {A = ℕ} 0 1 = cc in absurd (omega arith)
 
--- an answer that is not `Done` is that of a refusal
-pub refused_not : (r : Refusal) (n : ℕ) → change.Refused r ≡ change.Done n → ⊥
-refused_not r n e = let z : ◌≡◌ {A = ℕ} 0 1 = cc in omega arith
+-- an error is that of a refusal
+admitted_not : (k : Check) (left idle : ℕ) (u : Unchanged) → admitted_by k left idle ≡ Err u → (r : Refusal) × (k ≡ Err r)
+admitted_not (Ok tt) left idle u e = let z : ◌≡◌ {A = ℕ} 0 1 = cc in absurd (omega arith)
+admitted_not (Err r) left idle u e = (r, refl)
 
-pub room_not : (m n : ℕ) → change.Room m ≡ change.Done n → ⊥
-room_not m n e = let z : ◌≡◌ {A = ℕ} 0 1 = cc in omega arith
-
-admitted_not : (k : Check) (left idle : ℕ) → ((n : ℕ) → admitted_by k left idle ≡ change.Done n → ⊥) → (r : Refusal) × (k ≡ Refused r)
-admitted_not Clear left idle n = absurd (n left refl)
-admitted_not (Refused r) left idle n = (r, refl)
-
-changed_not : (k : Check) (idle : ℕ) → ((n : ℕ) → change_by k idle ≡ change.Done n → ⊥) → (r : Refusal) × (k ≡ Refused r)
-changed_not Clear idle n = absurd (n idle refl)
-changed_not (Refused r) idle n = (r, refl)
+changed_not : (k : Check) (idle : ℕ) (u : Unchanged) → change_by k idle ≡ Err u → (r : Refusal) × (k ≡ Err r)
+changed_not (Ok tt) idle u e = let z : ◌≡◌ {A = ℕ} 0 1 = cc in absurd (omega arith)
+changed_not (Err r) idle u e = (r, refl)
 
 -- ---- an over-allocated add, y being what the plain add of n leaves returns and D the board it leaves
 
@@ -279,15 +271,15 @@ module _ (d : Drive) (B T : List ℕ) (x r n : ℕ) (is : n ≡ min (held_for r)
   left : D ≡ calls.added_board d B x (held_for r)
   left = p.2 ∙ (added_same d B x (held_for r) n is).1
 
-  pub over_not : (c : Change) → y.answer ≡ c → ((m : ℕ) → c ≡ change.Done m → ⊥)
-      → (c ≡ (calls.added d B x (held_for r)).answer) × (D ≡ calls.added_board d B x (held_for r)) × (T ≡ rates_after d B x r T)
+  pub over_not : (u : Unchanged) → y.answer ≡ Err u
+      → (Err u ≡ (calls.added d B x (held_for r)).answer) × (D ≡ calls.added_board d B x (held_for r)) × (T ≡ rates_after d B x r T)
   unfolding rates_after
-  over_not c e not =
-      let f = admitted_not (add_check d B x (held_for r)) (calls.added_idle d B x (held_for r)) (weight d.capacity B 0) (λ m z. not m (sym e ∙ asked ∙ z)) in
+  over_not u e =
+      let f = admitted_not (add_check d B x (held_for r)) (calls.added_idle d B x (held_for r)) (weight d.capacity B 0) u (sym asked ∙ e) in
       (sym e ∙ asked, left, rw f.1 refl)
 
-  module _ (m : ℕ) (e : y.answer ≡ change.Done m) where
-    clear : add_check d B x (held_for r) ≡ Clear
+  module _ (m : ℕ) (e : y.answer ≡ Ok m) where
+    clear : add_check d B x (held_for r) ≡ Ok tt
     clear = admitted_done (add_check d B x (held_for r)) (calls.added_idle d B x (held_for r)) (weight d.capacity B 0) m (sym asked ∙ e)
 
     there : D ≡ placed d.capacity B x (held_for r)
@@ -298,7 +290,7 @@ module _ (d : Drive) (B T : List ℕ) (x r n : ℕ) (is : n ≡ min (held_for r)
     over_held = rw there (omega (arith, placed_weight d.capacity B x (held_for r) (add_clear d B x (held_for r) clear), add_weight d B x (held_for r) clear))
 
     pub over_done : (U : List ℕ) → U ≡ rated_table d.capacity D T x r
-        → (change.Done m ≡ (calls.added d B x (held_for r)).answer) × (D ≡ calls.added_board d B x (held_for r)) × (U ≡ rates_after d B x r T)
+        → ((Ok m) ≡ (calls.added d B x (held_for r)).answer) × (D ≡ calls.added_board d B x (held_for r)) × (U ≡ rates_after d B x r T)
     unfolding rates_after
     over_done U u = (sym e ∙ asked, left, u ∙ rw (there, clear) refl)
 
@@ -308,15 +300,15 @@ module _ (d : Drive) (B T E F : List ℕ) (x : ℕ) (y : Changed) (D : List ℕ)
   told : y.answer ≡ (calls.removed d B x).answer
   told = ap (λ (z : Changed). z.answer) p.0
 
-  pub remove_not : (c : Change) → y.answer ≡ c → ((m : ℕ) → c ≡ change.Done m → ⊥)
-      → (c ≡ (calls.removed d B x).answer) × (D ≡ calls.removed_board d B x) × (T ≡ table_after d B x T) × (E ≡ table_after d B x E) × (F ≡ table_after d B x F)
+  pub remove_not : (u : Unchanged) → y.answer ≡ Err u
+      → (Err u ≡ (calls.removed d B x).answer) × (D ≡ calls.removed_board d B x) × (T ≡ table_after d B x T) × (E ≡ table_after d B x E) × (F ≡ table_after d B x F)
   unfolding table_after
-  remove_not c e not =
-      let f = changed_not (remove_check d B x) (calls.removed_idle d B x) (λ m z. not m (sym e ∙ told ∙ z)) in
+  remove_not u e =
+      let f = changed_not (remove_check d B x) (calls.removed_idle d B x) u (sym told ∙ e) in
       (sym e ∙ told, p.2, rw f.1 refl, rw f.1 refl, rw f.1 refl)
 
-  module _ (m : ℕ) (e : y.answer ≡ change.Done m) (M : List ℕ) (alike : Alike d.capacity B M) where
-    gone : remove_check d B x ≡ Clear
+  module _ (m : ℕ) (e : y.answer ≡ Ok m) (M : List ℕ) (alike : Alike d.capacity B M) where
+    gone : remove_check d B x ≡ Ok tt
     gone = changed_done (remove_check d B x) (calls.removed_idle d B x) m (sym told ∙ e)
 
     tidied : D ≡ tidying.removed d.capacity B x
@@ -327,5 +319,5 @@ module _ (d : Drive) (B T E F : List ℕ) (x : ℕ) (y : Changed) (D : List ℕ)
     settles S U u = rw gone (settled_told d.capacity B M (tidying.removed d.capacity B x) D S U alike tidied u)
 
     pub remove_done : (T' E' F' : List ℕ) → T' ≡ settled_table d.capacity M D T → E' ≡ settled_table d.capacity M D E → F' ≡ settled_table d.capacity M D F
-        → (change.Done m ≡ (calls.removed d B x).answer) × (D ≡ calls.removed_board d B x) × (T' ≡ table_after d B x T) × (E' ≡ table_after d B x E) × (F' ≡ table_after d B x F)
+        → ((Ok m) ≡ (calls.removed d B x).answer) × (D ≡ calls.removed_board d B x) × (T' ≡ table_after d B x T) × (E' ≡ table_after d B x E) × (F' ≡ table_after d B x F)
     remove_done T' E' F' t f g = (sym e ∙ told, p.2, settles T T' t, settles E E' f, settles F F' g)

@@ -17,7 +17,8 @@ use Rattle.calls.specs.Records.{drive_at}
 use Rattle.calls.specs.Refusals.{applies, add_check, remove_check}
 use Rattle.waiting.specs.Layout.{least, answers_in, orders_in, order_at, orders_from, waiting, counted, answered_at, answered_from, settled}
 use Rattle.waiting.specs.Carrying.{carried_all, outcomes}
-use Rattle.orders.specs.declared.Way.TheVariants as way
+use Rattle.orders.specs.declared.Moment.TheVariants as moment
+use Rattle.std.specs.Prelude.{Ok, Err}
 use Rattle.orders.specs.Checks.{order_check}
 use Rattle.orders.specs.Results as plain
 use Rattle.orders.specs.Results.{remove_order}
@@ -64,7 +65,7 @@ refused = (refl, refl, refl)
 waits :
     (way_of (drive_at 4 1) (drive_at 4 2) (lent zeros zeros zeros zeros) none (over_order 9 3) ∷ way_of (drive_at 4 1) (drive_at 4 2) (lent zeros zeros zeros zeros) none (over_order 9 0)
     ∷ way_of (drive_at 4 1) (drive_at 4 2) (lent zeros zeros zeros (1 ∷ 0 ∷ 0 ∷ 0 ∷ [])) none (over_order 9 3) ∷ [])
-    ≡ way.Wait ∷ way.Refused Weight ∷ way.Refused Damaged ∷ []
+    ≡ (Ok moment.Later) ∷ (Err Weight) ∷ (Err Damaged) ∷ []
 unfolding digits uniform whole pieces weight single sound fits applies least answers_in orders_in order_check size_check place_check pair_check both_start too_few share_check way_of
 waits = refl
 

@@ -12,20 +12,17 @@ use Rattle.tables.proofs.Laws.{lowest_held, turn_fits}
 use Rattle.calls.specs.declared.Drive.{Drive}
 use Rattle.calls.specs.declared.Refusal.{Refusal}
 use Rattle.calls.specs.declared.Refusal.TheVariants.{Damaged}
-use Rattle.calls.specs.declared.Check.{Check}
-use Rattle.calls.specs.declared.Check.TheVariants.{Clear, Refused}
-use Rattle.calls.specs.declared.Served.{Served}
-use Rattle.calls.specs.declared.Serving.TheVariants as serving
+use Rattle.calls.specs.Types.{Check, Served}
+use Rattle.std.specs.Prelude.{Ok, Err}
 use Rattle.calls.specs.Refusals.{zero_or}
 use Rattle.calls.specs.Answers.{Answer, serving_answer}
 use Rattle.calls.specs.Results.{served_leaf}
 use Rattle.calls.proofs.Laws.{Refuses, refuses, refusal, leaf_held}
 use Rattle.waiting.specs.declared.Order.{Order}
 use Rattle.waiting.specs.Layout.{too_short, taken, taken_list}
-use Rattle.orders.specs.declared.Ordered.{Ordered}
-use Rattle.orders.specs.declared.Ordering.TheVariants as ordering
-use Rattle.orders.specs.declared.Way.{Way}
-use Rattle.orders.specs.declared.Way.TheVariants as way
+use Rattle.orders.specs.Types.{Ordered, Way}
+use Rattle.orders.specs.declared.Declined.TheVariants as declined
+use Rattle.orders.specs.declared.Moment.TheVariants as moment
 use Rattle.orders.specs.Answers.{ordering_answer, listed}
 use Rattle.orders.specs.Results.{add_order, remove_order}
 use Rattle.shares.specs.States.{BoardTables, fitting}
@@ -57,12 +54,12 @@ module _ (a b : Drive) (s : BoardTables) (L : List ℕ) (o : Order) where
   change_unique p q = (unique p.0 q.0, unique p.2 q.2, unique p.3 q.3)
 
   -- A refusal of the first checks, or of an order that would wait, changes nothing,
-  pub refused_nothing : (r : Refusal) → way_of a b s L o ≡ way.Refused r
-      → (changed a b s L o ≡ record { drive = a; answer = ordering.Refused r }) × (changed_state a b s L o ≡ s) × (changed_list a b s L o ≡ L)
+  pub refused_nothing : (r : Refusal) → way_of a b s L o ≡ Err r
+      → (changed a b s L o ≡ record { drive = a; answer = Err (declined.Refused r) }) × (changed_state a b s L o ≡ s) × (changed_list a b s L o ≡ L)
   refused_nothing r e = (rw e refl, rw e refl, rw e refl)
 
   -- and an order that waits the list alone.
-  pub waits_list : way_of a b s L o ≡ way.Wait
+  pub waits_list : way_of a b s L o ≡ Ok moment.Later
       → (changed a b s L o ≡ record { drive = a; answer = listed (taken L) }) × (changed_state a b s L o ≡ s) × (changed_list a b s L o ≡ taken_list L o)
   waits_list e = (rw e refl, rw e refl, rw e refl)
 
@@ -78,9 +75,9 @@ module _ (a b : Drive) (s : BoardTables) (L : List ℕ) (o : Order) where
   change_fits long fit = go (way_of a b s L o) refl
     where
       go : (k : Way) → way_of a b s L o ≡ k → fitting a.capacity (changed_state a b s L o) ≡ true
-      go (way.Refused r) e = rw e fit
-      go way.Wait e = rw e fit
-      go way.Now e = rw e (doings.carried_fits a s long fit o)
+      go (Err r) e = rw e fit
+      go (Ok moment.Later) e = rw e fit
+      go (Ok moment.Now) e = rw e (doings.carried_fits a s long fit o)
 
 -- 4 is not among the numbers.
 module _ (a b : Drive) (s : BoardTables) (L : List ℕ) (x w : ℕ) {r : Ordered} {t : BoardTables} {F : List ℕ} where
@@ -113,8 +110,8 @@ module _ (a b : Drive) (s : BoardTables) (L : List ℕ) where
   slot_may_lem p = rw p.1 (answering.share_within a b s (too_short (length L)))
 
   -- A slot that is refused for 5 runs nothing, whatever waits.
-  pub slot_damaged : list_check a b s (length L) ≡ Refused Damaged
-      → (served a b s L ≡ record { drive = a; answer = serving.Refused Damaged }) × (served_state a b s L ≡ s) × (served_list a b s L ≡ L)
+  pub slot_damaged : list_check a b s (length L) ≡ Err Damaged
+      → (served a b s L ≡ record { drive = a; answer = Err Damaged }) × (served_state a b s L ≡ s) × (served_list a b s L ≡ L)
   slot_damaged e = (rw e refl, rw e refl, rw e refl)
 
   -- Tables that fit go on fitting.
@@ -122,5 +119,5 @@ module _ (a b : Drive) (s : BoardTables) (L : List ℕ) where
   slot_fits fit = go (list_check a b s (length L)) refl
     where
       go : (k : Check) → list_check a b s (length L) ≡ k → fitting a.capacity (served_state a b s L) ≡ true
-      go (Refused r) e = rw e fit
-      go Clear e = rw e (turn_fit a (state_then a b s L) (running.then_ready a b s L (readying.share_ready a b s (too_short (length L)) e)))
+      go (Err r) e = rw e fit
+      go (Ok tt) e = rw e (turn_fit a (state_then a b s L) (running.then_ready a b s L (readying.share_ready a b s (too_short (length L)) e)))

@@ -13,15 +13,15 @@ use Rattle.tables.proofs.Laws.{fits_parts}
 use Rattle.calls.specs.declared.Drive.{Drive}
 use Rattle.calls.specs.declared.Refusal.{Refusal}
 use Rattle.calls.specs.declared.Refusal.TheVariants.{Midround, Damaged}
-use Rattle.calls.specs.declared.Check.{Check}
-use Rattle.calls.specs.declared.Check.TheVariants.{Clear, Refused}
+use Rattle.calls.specs.Types.{Check}
+use Rattle.std.specs.Prelude.{Ok, Err}
 use Rattle.calls.specs.Refusals.{refuse_if, good_check, change_check}
 use Rattle.calls.proofs.Laws.{first_clear, then_clear, slot_sized, change_parts, refuse_clear}
 use Rattle.waiting.specs.declared.Order.{Order}
 use Rattle.waiting.specs.Layout.{too_short, orders_in}
 use Rattle.orders.specs.Checks.{words_check, order_check, waits_if, way_by}
-use Rattle.orders.specs.declared.Way.{Way}
-use Rattle.orders.specs.declared.Way.TheVariants as way
+use Rattle.orders.specs.Types.{Way}
+use Rattle.orders.specs.declared.Moment.TheVariants as moment
 use Rattle.orders.proofs.Laws.{way_wait}
 use Rattle.drives.specs.Checks.{pair_check, both_start}
 use Rattle.drives.proofs.Laws.{Paired, pair_clear, start_both, way_now}
@@ -29,9 +29,6 @@ use Rattle.shares.specs.States.{BoardTables, fitting}
 use Rattle.shares.specs.Checks.{too_few, fit_check, placed_check, share_check, list_check, way_of, Ready}
 
 -- ---- no table is too short
-
-pub last_lacks : (t x y z : Bool) → t ≡ false → x ≡ false → y ≡ false → z ≡ (t || (x || (y || z)))
-last_lacks t x y z f g h = rw (f, g, h) refl
 
 pub few_long : (C : ℕ) (s : BoardTables) → too_few C s ≡ false → (C ≤ length s.rates) × (C ≤ length s.owed) × (C ≤ length s.other)
 unfolding too_few
@@ -47,7 +44,7 @@ module _ (a b : Drive) (s : BoardTables) (t : Bool) where
   short = t || too_few (max a.capacity b.capacity) s
 
   -- what a test of 5 may rely on
-  pub pair_lengths : pair_check a b s.board (t || too_few (max a.capacity b.capacity) s) ≡ Clear
+  pub pair_lengths : pair_check a b s.board (t || too_few (max a.capacity b.capacity) s) ≡ Ok tt
       → (a.capacity ≤ length s.board) × (a.capacity ≤ length s.rates) × (a.capacity ≤ length s.owed) × (a.capacity ≤ length s.other) × (a.capacity ≤ 4095)
   pair_lengths e =
       let p = pair_clear a b s.board short e in
@@ -65,25 +62,25 @@ module _ (a b : Drive) (s : BoardTables) (t : Bool) where
     pair_is : k ≡ pair_check a b s.board (t || too_few (max a.capacity b.capacity) s)
     pair_is = is ∙ ap (λ (x : Bool). pair_check a b s.board x) lacking
 
-    pub found_lengths : k ≡ Clear
+    pub found_lengths : k ≡ Ok tt
         → (a.capacity ≤ length s.board) × (a.capacity ≤ length s.rates) × (a.capacity ≤ length s.owed) × (a.capacity ≤ length s.other) × (a.capacity ≤ 4095)
     found_lengths e = pair_lengths (sym pair_is ∙ e)
 
-    pub found_refused : (there : Bool) (r : Refusal) → k ≡ Refused r → Refused r ≡ placed_check there a b s t
+    pub found_refused : (there : Bool) (r : Refusal) → k ≡ Err r → Err r ≡ placed_check there a b s t
     unfolding placed_check
     found_refused there r e = rw (← pair_is, e) refl
 
-    pub found_away : (there : Bool) → k ≡ Clear → there ≡ false → Refused Midround ≡ placed_check there a b s t
+    pub found_away : (there : Bool) → k ≡ Ok tt → there ≡ false → Err Midround ≡ placed_check there a b s t
     unfolding placed_check
     found_away there e f = rw (← pair_is, e, f) refl
 
-    pub found_next : (there : Bool) (j : Check) → k ≡ Clear → there ≡ true → j ≡ fit_check a.capacity s → j ≡ placed_check there a b s t
+    pub found_next : (there : Bool) (j : Check) → k ≡ Ok tt → there ≡ true → j ≡ fit_check a.capacity s → j ≡ placed_check there a b s t
     unfolding placed_check
     found_next there j e f h = rw (← pair_is, e, f) h
 
 -- ---- what is known once nothing is found
 
-module _ (there : Bool) (a b : Drive) (s : BoardTables) (t : Bool) (e : placed_check there a b s t ≡ Clear) where
+module _ (there : Bool) (a b : Drive) (s : BoardTables) (t : Bool) (e : placed_check there a b s t ≡ Ok tt) where
   -- The drives are where the call is made, and one that is made anywhere finds nothing either.
   pub placed_there : there ≡ true
   unfolding placed_check
@@ -92,20 +89,20 @@ module _ (there : Bool) (a b : Drive) (s : BoardTables) (t : Bool) (e : placed_c
       let k = then_clear (pair_check a b s.board (t || too_few (max a.capacity b.capacity) s)) rest e in
       not-false there (refuse_clear (not there) Midround (fit_check a.capacity s) k).0
 
-  pub placed_look : share_check a b s t ≡ Clear
+  pub placed_look : share_check a b s t ≡ Ok tt
   unfolding share_check
-  placed_look = subst (λ (x : Bool). placed_check x a b s t ≡ Clear) placed_there e
+  placed_look = subst (λ (x : Bool). placed_check x a b s t ≡ Ok tt) placed_there e
 
-module _ (a b : Drive) (s : BoardTables) (t : Bool) (e : share_check a b s t ≡ Clear) where
-  share_pair : pair_check a b s.board (t || too_few (max a.capacity b.capacity) s) ≡ Clear
+module _ (a b : Drive) (s : BoardTables) (t : Bool) (e : share_check a b s t ≡ Ok tt) where
+  share_pair : pair_check a b s.board (t || too_few (max a.capacity b.capacity) s) ≡ Ok tt
   unfolding share_check
-  share_pair = first_clear (pair_check a b s.board (t || too_few (max a.capacity b.capacity) s)) (refuse_if (not (fitting a.capacity s)) Damaged Clear) e
+  share_pair = first_clear (pair_check a b s.board (t || too_few (max a.capacity b.capacity) s)) (refuse_if (not (fitting a.capacity s)) Damaged (Ok tt)) e
 
   share_fit : fitting a.capacity s ≡ true
   unfolding share_check
   share_fit =
-      let k = then_clear (pair_check a b s.board (t || too_few (max a.capacity b.capacity) s)) (refuse_if (not (fitting a.capacity s)) Damaged Clear) e in
-      not-false (fitting a.capacity s) (refuse_clear (not (fitting a.capacity s)) Damaged Clear k).0
+      let k = then_clear (pair_check a b s.board (t || too_few (max a.capacity b.capacity) s)) (refuse_if (not (fitting a.capacity s)) Damaged (Ok tt)) e in
+      not-false (fitting a.capacity s) (refuse_clear (not (fitting a.capacity s)) Damaged (Ok tt) k).0
 
   -- Both records pass the checks of slot and have one C, and nothing else that is lent is too short;
   pub share_paired : Paired a b s.board (t || too_few (max a.capacity b.capacity) s)
@@ -120,14 +117,14 @@ module _ (a b : Drive) (s : BoardTables) (t : Bool) (e : share_check a b s t ≡
       let l = pair_lengths a b s t share_pair in
       record { clear = share_paired.own; rates = l.1; owed = l.2; other = l.3; fit = share_fit }
 
-pub list_long : (a b : Drive) (s : BoardTables) (n : ℕ) → list_check a b s n ≡ Clear → 259 ≤ n
+pub list_long : (a b : Drive) (s : BoardTables) (n : ℕ) → list_check a b s n ≡ Ok tt → 259 ≤ n
 list_long a b s n e = ltb-false n 259 (share_long a b s (too_short n) e)
 
 -- A record that is ready and at the start of a round passes the checks 1 to 5 of a change.
 pub ready_good : (d : Drive) (s : BoardTables) → Ready d s → good d.capacity s.board ≡ true
 ready_good d s is = (fits_parts d.capacity s.board s.rates (s.owed ∷ s.other ∷ []) is.fit).0
 
-pub ready_change : (d : Drive) (s : BoardTables) → Ready d s → d.position ≡ 1 → Clear ≡ change_check d s.board
+pub ready_change : (d : Drive) (s : BoardTables) → Ready d s → d.position ≡ 1 → Ok tt ≡ change_check d s.board
 unfolding good_check
 ready_change d s is at = sym (change_parts d s.board ∙ rw (is.clear, eq-eqb d.position 1 at, ready_good d s is) refl)
 
@@ -139,8 +136,8 @@ way_words a b s L o = go (list_check a b s (length L)) refl
   where
     go : (k : Check) → list_check a b s (length L) ≡ k → way_by (list_check a b s (length L)) (waits_if (both_start a b) L) (words_check o)
         ≡ way_by (list_check a b s (length L)) (waits_if (both_start a b) L) (refuse_if (not (good a.capacity s.board)) Damaged (words_check o))
-    go Clear e = rw (ready_good a s (share_ready a b s (too_short (length L)) e)) refl
-    go (Refused r) e = rw e refl
+    go (Ok tt) e = rw (ready_good a s (share_ready a b s (too_short (length L)) e)) refl
+    go (Err r) e = rw e refl
 
 module _ (a b : Drive) (s : BoardTables) (L : List ℕ) (o : Order) where
   -- what the code finds
@@ -149,12 +146,12 @@ module _ (a b : Drive) (s : BoardTables) (L : List ℕ) (o : Order) where
   way_found k begins w e f g = g ∙ rw (e, f) (way_words a b s L o)
 
   -- What waits or is made at once has passed the first checks,
-  pub way_clear : way_of a b s L o ≡ way.Wait → list_check a b s (length L) ≡ Clear
+  pub way_clear : way_of a b s L o ≡ Ok moment.Later → list_check a b s (length L) ≡ Ok tt
   unfolding way_of
   way_clear e = way_wait (list_check a b s (length L)) (waits_if (both_start a b) L) (order_check a.capacity s.board o) e
 
   -- and what is made at once stands at the start of a round.
-  pub now_ready : way_of a b s L o ≡ way.Now → Ready a s × (a.position ≡ 1)
+  pub now_ready : way_of a b s L o ≡ Ok moment.Now → Ready a s × (a.position ≡ 1)
   unfolding way_of
   now_ready e =
       let f = way_now (list_check a b s (length L)) (both_start a b) (ltb 0 (orders_in L)) (order_check a.capacity s.board o) e in

@@ -3,19 +3,17 @@ use mathlib.Core.Path.{◌≡◌, refl, sym, ap, subst, ◌∙◌}
 use mathlib.Core.Bool.{Bool}
 use mathlib.Core.List.{List, [], ◌∷◌}
 use Prim.Native.Nat.{ℕ, ◌≤◌, ◌<◌}
-use native.Mathlib.Omega.{arith}
 use lib.ListN.{length}
 use Rattle.sequences.proofs.Laws.{leaf_below_lem}
-use Rattle.tables.specs.Turns.{Shared, name_at, owed_at}
+use Rattle.tables.specs.Turns.{Shared}
 use Rattle.tables.proofs.Laws.{fits_shared}
 use Rattle.calls.specs.declared.Drive.{Drive}
-use Rattle.calls.specs.declared.Refusal.{Refusal}
-use Rattle.calls.specs.declared.Check.TheVariants.{Clear}
-use Rattle.calls.specs.declared.Served.{Served}
-use Rattle.calls.specs.declared.Serving.TheVariants as serving
+use Rattle.calls.specs.declared.Slot.{Slot}
+use Rattle.std.specs.Prelude.{Ok}
+use Rattle.calls.specs.Types.{Served}
 use Rattle.calls.specs.Answers.{serving_answer}
 use Rattle.calls.specs.Results as calls
-use Rattle.calls.specs.Results.{served_leaf, served_passed, served_round, served_name, moved_on}
+use Rattle.calls.specs.Results.{served_leaf, served_passed, served_round, served_name}
 use Rattle.calls.proofs.Laws.{slot_sized, slot_position}
 use Rattle.waiting.specs.Layout.{too_short}
 use Rattle.drives.specs.Checks.{both_start}
@@ -32,50 +30,37 @@ module _ (d : Drive) (s : BoardTables) (is : Ready d s) where
 
   -- y is what the plain slot returns
   module _ (y : Served) (p : y ≡ calls.served d s.board) where
-    moved : y.drive ≡ moved_on d
-    moved = ap (λ (z : Served). z.drive) p ∙ rw is.clear refl
-
-    says : y.answer ≡ serving.Slot (served_name d s.board) (served_leaf d) (served_passed d) (served_round d)
+    says : y.answer ≡ Ok (record { name = (served_name d s.board); leaf = (served_leaf d); passed = (served_passed d); round = (served_round d) })
     says = ap (λ (z : Served). z.answer) p ∙ rw is.clear refl
 
-    pub never_refused : (r : Refusal) → y.answer ≡ serving.Refused r → ⊥
-    never_refused r e = let f = sym says ∙ e in let z : ◌≡◌ {A = ℕ} 0 1 = cc in omega arith
+    module _ (slot : Slot) (e : y.answer ≡ Ok slot) where
+      slot_is : slot ≡ record { name = served_name d s.board; leaf = served_leaf d; passed = served_passed d; round = served_round d }
+      slot_is = let f = sym e ∙ says in cc
 
-    module _ (name leaf passed round : ℕ) (e : y.answer ≡ serving.Slot name leaf passed round) where
-      leaf_is : leaf ≡ served_leaf d
-      leaf_is = let f = sym e ∙ says in cc
-
-      rest_is : (passed ≡ served_passed d) × (round ≡ served_round d)
-      rest_is = let f = sym e ∙ says in (cc, cc)
+      leaf_is : slot.leaf ≡ served_leaf d
+      leaf_is = ap (λ (z : Slot). z.leaf) slot_is
 
       -- what the turn relies on
-      pub turn_ready : (leaf < d.capacity) × (d.capacity ≤ length s.owed) × Shared d.capacity s.board s.rates
+      pub turn_ready : (slot.leaf < d.capacity) × (d.capacity ≤ length s.owed) × Shared d.capacity s.board s.rates
       turn_ready =
           let z = slot_sized d s.board is.clear in
           (rw leaf_is leaf_within, is.owed, fits_shared d.capacity s.board s.rates (s.owed ∷ s.other ∷ []) z.few z.long is.rates is.fit)
 
-      -- and what it leaves
-      pub turn_done : (given : ℕ) (E : List ℕ) → given ≡ name_at d.capacity s.board s.rates s.owed leaf → E ≡ owed_at d.capacity s.board s.rates s.owed leaf
-          → (record { drive = y.drive; answer = serving.Slot given leaf passed round } ≡ served_by Clear d s) × (E ≡ owed_at d.capacity s.board s.rates s.owed (served_leaf d))
-      turn_done given E g t =
-          let r = rest_is in
-          (rw (moved, g, r.0, r.1, leaf_is) refl, t ∙ ap (λ (l : ℕ). owed_at d.capacity s.board s.rates s.owed l) leaf_is)
-
 -- ---- slot: t and M are the state and the list once the list is run, where a round begins
 
-module _ (a b : Drive) (s : BoardTables) (L : List ℕ) (e : list_check a b s (length L) ≡ Clear) (begins : Bool) (t : BoardTables) (ran : t ≡ state_if begins a s L) where
+module _ (a b : Drive) (s : BoardTables) (L : List ℕ) (e : list_check a b s (length L) ≡ Ok tt) (begins : Bool) (t : BoardTables) (ran : t ≡ state_if begins a s L) where
   pub slot_ready : Ready a t
   slot_ready = subst (λ (u : BoardTables). Ready a u) (sym ran) (if_ready begins a s L (share_ready a b s (too_short (length L)) e))
 
-  pub slot_done : begins ≡ both_start a b → (M : List ℕ) → M ≡ list_if begins a s L → (r : Served) (u : BoardTables) → r ≡ served_by Clear a t → u ≡ turn_state a t
+  pub slot_done : begins ≡ both_start a b → (M : List ℕ) → M ≡ list_if begins a s L → (r : Served) (u : BoardTables) → r ≡ served_by (Ok tt) a t → u ≡ turn_state a t
       → Serves a b s L r u M
   unfolding state_then list_then
   slot_done f M kept r u served turned =
       let z : t ≡ state_if (both_start a b) a s L = ran ∙ ap (λ (x : Bool). state_if x a s L) f in
       let m : M ≡ list_if (both_start a b) a s L = kept ∙ ap (λ (x : Bool). list_if x a s L) f in
       rw e (
-        served ∙ ap (λ (v : BoardTables). served_by Clear a v) z,
-        ap (λ (q : Served). serving_answer q.answer) served ∙ ap (λ (v : BoardTables). served_answer_by Clear a v) z,
+        served ∙ ap (λ (v : BoardTables). served_by (Ok tt) a v) z,
+        ap (λ (q : Served). serving_answer q.answer) served ∙ ap (λ (v : BoardTables). served_answer_by (Ok tt) a v) z,
         turned ∙ ap (λ (v : BoardTables). turn_state a v) z,
         m,
       )

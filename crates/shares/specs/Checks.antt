@@ -1,15 +1,14 @@
 -- The checks of a call with tables for two drives, and how a change is taken by them: a is the record of the drive that the call is for, b that of the other, s
 -- the board and the tables.
 -- Assumes nothing.
-use Rattle.std.specs.Prelude.{◌≡◌, Bool, true, false, not, ◌||◌, List, ℕ, max, ◌≤◌, ltb, length}
+use Rattle.std.specs.Prelude.{◌≡◌, Bool, true, false, not, ◌||◌, List, ℕ, max, ◌≤◌, ltb, length, Ok}
 use Rattle.calls.specs.declared.Drive.{Drive}
 use Rattle.calls.specs.declared.Refusal.TheVariants.{Midround, Damaged}
-use Rattle.calls.specs.declared.Check.{Check}
-use Rattle.calls.specs.declared.Check.TheVariants.{Clear}
+use Rattle.calls.specs.Types.{Check}
 use Rattle.calls.specs.Refusals.{refuse_if, and_then, slot_check}
 use Rattle.waiting.specs.declared.Order.{Order}
 use Rattle.waiting.specs.Layout.{too_short}
-use Rattle.orders.specs.declared.Way.{Way}
+use Rattle.orders.specs.Types.{Way}
 use Rattle.orders.specs.Checks.{order_check, waits_if, way_by}
 use Rattle.drives.specs.Checks.{pair_check, both_start}
 use Rattle.shares.specs.States.{BoardTables, fitting}
@@ -20,7 +19,7 @@ too_few C s = ltb (length s.rates) C || (ltb (length s.owed) C || ltb (length s.
 
 -- 5, of the whole board and every table.
 unfoldable pub fit_check : ℕ → BoardTables → Check
-fit_check C s = refuse_if (not (fitting C s)) Damaged Clear
+fit_check C s = refuse_if (not (fitting C s)) Damaged (Ok tt)
 
 -- Every call: 1, 2, 3 of both records, 2 also for a table, by the larger C, or where something else that is lent is too short; 4 unless the drives are where the
 -- call is made; 5.
@@ -48,7 +47,7 @@ way_of a b s L o = way_by (list_check a b s (length L)) (waits_if (both_start a 
 
 -- What is known once these checks find nothing, of either record d: slot's own checks are clear, the tables are long enough, and they fit the board.
 pub record Ready (d : Drive) (s : BoardTables) : Type 0 where
-  pub clear : slot_check d s.board ≡ Clear
+  pub clear : slot_check d s.board ≡ Ok tt
   pub rates : d.capacity ≤ length s.rates
   pub owed : d.capacity ≤ length s.owed
   pub other : d.capacity ≤ length s.other

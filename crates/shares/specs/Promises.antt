@@ -3,10 +3,10 @@
 -- Assumes nothing.
 use Rattle.std.specs.Prelude.{◌≡◌, List, ℕ}
 use Rattle.calls.specs.declared.Drive.{Drive}
-use Rattle.calls.specs.declared.Served.{Served}
+use Rattle.calls.specs.Types.{Served}
 use Rattle.calls.specs.Answers.{serving_answer}
 use Rattle.waiting.specs.declared.Order.{Order}
-use Rattle.orders.specs.declared.Ordered.{Ordered}
+use Rattle.orders.specs.Types.{Ordered}
 use Rattle.orders.specs.Answers.{ordering_answer}
 use Rattle.shares.specs.States.{BoardTables}
 use Rattle.shares.specs.Results.{changed, changed_answer, changed_state, changed_list, served, served_answer, served_state, served_list}

@@ -1,16 +1,14 @@
 -- What a change and a slot return and what they leave of the list, the board and the tables, for every input: a is the record of the drive that the call is for,
 -- which comes back, b that of the other, which is only looked at. What happens on the board is what `orders` says, an over-allocated stream being one of R leaves.
 -- Assumes nothing.
-use Rattle.std.specs.Prelude.{Bool, cond, List, [], ◌∷◌, ℕ, eqb, length}
+use Rattle.std.specs.Prelude.{Bool, cond, List, [], ◌∷◌, ℕ, eqb, length, Ok, Err}
 use Rattle.pieces.specs.Placing.{placed}
 use Rattle.pieces.specs.Tidying.{removed}
 use Rattle.tables.specs.Sharing.{held_for}
 use Rattle.tables.specs.Settling.{settled_table, rated_table}
 use Rattle.tables.specs.Turns.{name_at, owed_at}
 use Rattle.calls.specs.declared.Drive.{Drive}
-use Rattle.calls.specs.declared.Check.{Check}
-use Rattle.calls.specs.declared.Change.{Change}
-use Rattle.calls.specs.declared.Served.{Served}
+use Rattle.calls.specs.Types.{Check, Change, Served}
 use Rattle.calls.specs.Refusals.{add_check, remove_check}
 use Rattle.calls.specs.Answers.{Answer, answered}
 use Rattle.calls.specs.Results.{if_clear, serving_by, served_leaf, served_passed, served_round, moved_on}
@@ -18,9 +16,8 @@ use Rattle.waiting.specs.declared.Order.{Order}
 use Rattle.waiting.specs.declared.Outcome.{Outcome}
 use Rattle.waiting.specs.Layout.{waiting, taken_list, settled}
 use Rattle.waiting.specs.Carrying.{carried_all, outcomes}
-use Rattle.orders.specs.declared.Ordered.{Ordered}
-use Rattle.orders.specs.declared.Way.{Way}
-use Rattle.orders.specs.declared.Way.TheVariants as way
+use Rattle.orders.specs.Types.{Ordered, Way}
+use Rattle.orders.specs.declared.Moment.TheVariants as moment
 use Rattle.orders.specs.Answers.{outcome_of}
 use Rattle.orders.specs.Results as plain
 use Rattle.drives.specs.Checks.{both_start}
@@ -82,9 +79,9 @@ ran_list d s L = settled L (outcomes (doing d) (saying d) s (waiting L))
 -- ---- add, over-allocated add and remove, by the way that is chosen
 
 abbrev pub state_by : Way → BoardTables → BoardTables → BoardTables
-state_by (way.Refused r) done s = s
-state_by way.Wait done s = s
-state_by way.Now done s = done
+state_by (Err r) done s = s
+state_by (Ok moment.Later) done s = s
+state_by (Ok moment.Now) done s = done
 
 abbrev pub changed : Drive → Drive → BoardTables → List ℕ → Order → Ordered
 changed a b s L o = plain.changed_by (way_of a b s L o) a s.board L (board_order o)

@@ -3,47 +3,71 @@
 // single drive gives its record in both places and lends a second table of deficits, which stays zero. Every call looks at the whole board and every table.
 #![tactic(auto)]
 
-ghost use Rattle.std.specs.Prelude.{◌≡◌, ◌||◌, ◌≤◌, ◌<◌, ltb, length};
-ghost use Rattle.calls.specs.declared.Check.TheVariants.{Clear};
+ghost use Rattle.std.specs.Prelude.{◌≡◌, ◌||◌, Ok, ◌≤◌, ltb, length};
 ghost use Rattle.orders.specs.Checks as words;
 ghost use Rattle.orders.specs.Results.{add_order, remove_order};
-ghost use Rattle.shares.specs.States.{lent};
+ghost use Rattle.shares.specs.States.{lent, looked, held, same};
 ghost use Rattle.shares.specs.Checks as checks;
 ghost use Rattle.shares.specs.Results.{over_order};
 ghost use Rattle.shares.specs.Results as results;
 ghost use Rattle.shares.specs.Promises as promises;
 
-use calls::{Check, Drive, Refusal, Served, Serving};
-use orders::{Ordered, Ordering, Way};
+use calls::{Drive, Refusal, Returned, Served, Slot};
+use orders::{Accepted, Declined, Moment, Ordered};
 use waiting::Order;
 
 pub mod carrying;
+
+// What a call is lent beside the waiting list, to be looked at: the board, r of the over-allocated streams, the deficits of the drive that the call is for, and those
+// of the other drive. The public calls are lent each slice apart, as C lends them.
+#[derive(Clone, Copy)]
+pub struct Lent<'a> {
+    pub board: &'a [u16],
+    pub rates: &'a [u16],
+    pub owed: &'a [u16],
+    pub owed_other: &'a [u16],
+}
+
+// The same, to be changed.
+#[derive(Drop)]
+pub struct LentMut<'a> {
+    pub board: &'a mut [u16],
+    pub rates: &'a mut [u16],
+    pub owed: &'a mut [u16],
+    pub owed_other: &'a mut [u16],
+}
+
+impl<'a> LentMut<'a> {
+    // Returns the same, to be looked at.
+    fn look(&self) -> Lent<'_>
+        ensures { looked result ≡ held self.now }
+    {
+        Lent {
+            board: self.board,
+            rates: self.rates,
+            owed: self.owed,
+            owed_other: self.owed_other,
+        }
+    }
+}
 
 // Whether something that is lent is too short: what `short` says, or a table of fewer than c entries.
 pub fn lacks(short: bool, c: usize, rates: &[u16], owed: &[u16], owed_other: &[u16]) -> bool
     ensures { result ≡ (short || (ltb (length rates.now) c || (ltb (length owed.now) c || ltb (length owed_other.now) c))) }
 {
-    if short {
-        return true;
-    }
-    if rates.len() < c {
-        return true;
-    }
-    if owed.len() < c {
-        return true;
-    }
-    owed_other.len() < c
+    short || rates.len() < c || owed.len() < c || owed_other.len() < c
 }
 
 // The refusal 5, of the whole board and every table.
-fn check_fit(board: &[u16], c: usize, rates: &[u16], owed: &[u16], owed_other: &[u16]) -> Check
-    requires { (c ≤ length board.now) × (c ≤ length rates.now) × (c ≤ length owed.now) × (c ≤ length owed_other.now) × (c ≤ 4095) }
-    ensures { result ≡ checks.fit_check c (lent board.now rates.now owed.now owed_other.now) }
+#[tactic(auto, unfolding(crate::specs::Checks::fit_check))]
+fn check_fit(c: usize, lent: Lent) -> Result<(), Refusal>
+    requires { (c ≤ length lent.board.now) × (c ≤ length lent.rates.now) × (c ≤ length lent.owed.now) × (c ≤ length lent.owed_other.now) × (c ≤ 4095) }
+    ensures { result ≡ checks.fit_check c (looked lent.entry) }
 {
-    if tables::fitting::fits(board, c, rates, owed, owed_other) {
-        Check::Clear
+    if tables::fitting::fits(lent.board, c, lent.rates, lent.owed, lent.owed_other) {
+        Ok(())
     } else {
-        Check::Refused(Refusal::Damaged)
+        Err(Refusal::Damaged)
     }
 }
 
@@ -52,59 +76,63 @@ pub fn check_placed(
     there: bool,
     own: Drive,
     other: Drive,
-    board: &[u16],
-    rates: &[u16],
-    owed: &[u16],
-    owed_other: &[u16],
+    lent: Lent,
     short: bool,
-) -> Check
-    ensures { result ≡ checks.placed_check there own other (lent board.now rates.now owed.now owed_other.now) short }
+) -> Result<(), Refusal>
+    ensures { result ≡ checks.placed_check there own other (looked lent.entry) short }
 {
-    let c = drives::larger(own.capacity as usize, other.capacity as usize);
-    match drives::check_pair(own, other, board, lacks(short, c, rates, owed, owed_other)) {
-        Check::Refused(r) => Check::Refused(r),
-        Check::Clear => {
-            if there {
-                check_fit(board, own.capacity as usize, rates, owed, owed_other)
-            } else {
-                Check::Refused(Refusal::Midround)
-            }
-        }
+    let c = own.capacity.max(other.capacity) as usize;
+    let lacking = lacks(short, c, lent.rates, lent.owed, lent.owed_other);
+    drives::check_pair(own, other, lent.board, lacking)?;
+    if there {
+        check_fit(own.capacity as usize, lent)
+    } else {
+        Err(Refusal::Midround)
     }
 }
 
 // The refusals 1, 2, 3 and 5, wherever the drives are.
-pub fn check_shares(
-    own: Drive,
-    other: Drive,
-    board: &[u16],
-    rates: &[u16],
-    owed: &[u16],
-    owed_other: &[u16],
-    short: bool,
-) -> Check
-    ensures { result ≡ checks.share_check own other (lent board.now rates.now owed.now owed_other.now) short }
+#[tactic(auto, unfolding(crate::specs::Checks::share_check))]
+pub fn check_shares(own: Drive, other: Drive, lent: Lent, short: bool) -> Result<(), Refusal>
+    ensures { result ≡ checks.share_check own other (looked lent.entry) short }
 {
-    check_placed(true, own, other, board, rates, owed, owed_other, short)
+    check_placed(true, own, other, lent, short)
 }
 
 // How a change is taken, by what the first checks found and whether a round begins. The board was looked at in these checks.
-fn way_of(check: Check, begins: bool, list: &[u64], order: Order) -> Way
-    requires { check ≡ Clear → 259 ≤ length list.now }
+fn way_of(
+    check: Result<(), Refusal>,
+    begins: bool,
+    list: &[u64],
+    order: Order,
+) -> Result<Moment, Refusal>
+    requires { check ≡ Ok tt → 259 ≤ length list.now }
     ensures { result ≡ words.way_by check (words.waits_if begins list.now) (words.words_check order) }
 {
-    match check {
-        Check::Refused(r) => Way::Refused(r),
-        Check::Clear => {
-            if orders::must_wait(begins, list) {
-                match orders::check_words(order) {
-                    Check::Refused(r) => Way::Refused(r),
-                    Check::Clear => Way::Wait,
-                }
-            } else {
-                Way::Now
-            }
-        }
+    check?;
+    if !orders::must_wait(begins, list) {
+        return Ok(Moment::Now);
+    }
+    orders::check_words(order)?;
+    Ok(Moment::Later)
+}
+
+// What a change answers, and what it does.
+fn take(
+    own: Drive,
+    other: Drive,
+    lent: &mut LentMut,
+    list: &mut [u64],
+    order: Order,
+) -> Result<Accepted, Declined>
+    ensures orders { promises.Orders own other (held lent.old) list.old order (record { drive = own; answer = result }) (held lent.new) list.new }
+    ensures same { same lent.old lent.new }
+{
+    let check = check_shares(own, other, lent.look(), list.len() < waiting::LENGTH);
+    let begins = drives::both_start(own, other);
+    match way_of(check, begins, list, order)? {
+        Moment::Later => orders::listed(waiting::take(list, order)),
+        Moment::Now => orders::made(carrying::carry_out(own, lent, order)),
     }
 }
 
@@ -121,25 +149,14 @@ pub fn change(
 ) -> Ordered
     ensures { promises.Orders own other (lent board.old rates.old owed.old owed_other.old) list.old order result (lent board.new rates.new owed.new owed_other.new) list.new }
 {
-    let short = list.len() < waiting::LENGTH;
-    let check = check_shares(own, other, board, rates, owed, owed_other, short);
-    let begins = drives::both_start(own, other);
-    match way_of(check, begins, list, order) {
-        Way::Refused(r) => Ordered {
-            drive: own,
-            answer: Ordering::Refused(r),
-        },
-        Way::Wait => {
-            let taking = waiting::take(list, order);
-            let answer = orders::listed(taking);
-            Ordered { drive: own, answer }
-        }
-        Way::Now => {
-            let said = carrying::carry_out(own, board, rates, owed, owed_other, order);
-            let answer = orders::made(said);
-            Ordered { drive: own, answer }
-        }
-    }
+    let mut lent = LentMut {
+        board,
+        rates,
+        owed,
+        owed_other,
+    };
+    let answer = take(own, other, &mut lent, list, order);
+    Returned { drive: own, answer }
 }
 
 // Admits a stream.
@@ -156,11 +173,7 @@ pub fn add(
 ) -> Ordered
     ensures { promises.Orders own other (lent board.old rates.old owed.old owed_other.old) list.old (add_order name weight) result (lent board.new rates.new owed.new owed_other.new) list.new }
 {
-    let order = Order {
-        kind: 1,
-        name,
-        weight,
-    };
+    let order = Order::add(name, weight);
     change(own, other, board, list, rates, owed, owed_other, order)
 }
 
@@ -178,11 +191,7 @@ pub fn over(
 ) -> Ordered
     ensures { promises.Orders own other (lent board.old rates.old owed.old owed_other.old) list.old (over_order name weight) result (lent board.new rates.new owed.new owed_other.new) list.new }
 {
-    let order = Order {
-        kind: 3,
-        name,
-        weight,
-    };
+    let order = Order::over(name, weight);
     change(own, other, board, list, rates, owed, owed_other, order)
 }
 
@@ -199,45 +208,25 @@ pub fn remove(
 ) -> Ordered
     ensures { promises.Orders own other (lent board.old rates.old owed.old owed_other.old) list.old (remove_order name) result (lent board.new rates.new owed.new owed_other.new) list.new }
 {
-    let order = Order {
-        kind: 2,
-        name,
-        weight: 0,
-    };
+    let order = Order::remove(name);
     change(own, other, board, list, rates, owed, owed_other, order)
 }
 
-// Serves the slot at the record's position: the stream at its leaf takes its turn, by the deficits of the own drive.
+// Serves the slot at the record's position: the stream at its leaf takes its turn, by the deficits of the own drive. It is lent the slices apart: no
+// call may look at one field of what stands behind a reference while it changes another, and the turn looks at the board and r while it changes a deficit.
 fn serve(drive: Drive, board: &[u16], rates: &[u16], owed: &mut [u16], owed_other: &[u16]) -> Served
     requires { checks.Ready drive (lent board.now rates.now owed.old owed_other.now) }
-    ensures { (result ≡ results.served_by Clear drive (lent board.now rates.now owed.old owed_other.now)) × (lent board.now rates.now owed.new owed_other.now ≡ results.turn_state drive (lent board.now rates.now owed.old owed_other.now)) }
+    ensures { (result ≡ results.served_by (Ok tt) drive (lent board.now rates.now owed.old owed_other.now)) × (lent board.now rates.now owed.new owed_other.now ≡ results.turn_state drive (lent board.now rates.now owed.old owed_other.now)) }
 {
     let served = drive.slot(board);
-    let moved = served.drive;
-    let answer = served.answer;
-    match answer {
-        Serving::Refused(r) => Served {
-            drive: moved,
-            answer: Serving::Refused(r),
-        },
-        Serving::Slot {
-            name,
-            leaf,
-            passed,
-            round,
-        } => {
-            let c = drive.capacity as usize;
-            let given = tables::turns::turn_at(board, c, rates, owed, leaf as usize);
-            Served {
-                drive: moved,
-                answer: Serving::Slot {
-                    name: given,
-                    leaf,
-                    passed,
-                    round,
-                },
-            }
-        }
+    let Ok(slot) = served.answer else {
+        return served;
+    };
+    let c = drive.capacity as usize;
+    let name = tables::turns::turn_at(board, c, rates, owed, slot.leaf as usize);
+    Returned {
+        drive: served.drive,
+        answer: Ok(Slot { name, ..slot }),
     }
 }
 
@@ -253,16 +242,20 @@ pub fn slot(
 ) -> Served
     ensures { promises.Serves own other (lent board.old rates.old owed.old owed_other.old) list.old result (lent board.new rates.new owed.new owed_other.new) list.new }
 {
+    let mut lent = LentMut {
+        board,
+        rates,
+        owed,
+        owed_other,
+    };
     let short = list.len() < waiting::LENGTH;
-    match check_shares(own, other, board, rates, owed, owed_other, short) {
-        Check::Refused(r) => Served {
+    if let Err(refusal) = check_shares(own, other, lent.look(), short) {
+        return Returned {
             drive: own,
-            answer: Serving::Refused(r),
-        },
-        Check::Clear => {
-            let begins = drives::both_start(own, other);
-            carrying::start(begins, own, board, list, rates, owed, owed_other);
-            serve(own, board, rates, owed, owed_other)
-        }
+            answer: Err(refusal),
+        };
     }
+    let begins = drives::both_start(own, other);
+    carrying::start(begins, own, &mut lent, list);
+    serve(own, board, rates, owed, owed_other)
 }

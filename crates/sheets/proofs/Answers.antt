@@ -12,13 +12,11 @@ use Rattle.calls.specs.Refusals.{Asked, refuse_if, and_then, first_of, zero_or, 
 use Rattle.calls.specs.declared.Drive.{Drive}
 use Rattle.calls.specs.declared.Refusal.{Refusal}
 use Rattle.calls.specs.declared.Refusal.TheVariants.{Capacity, Short, Damaged, Output, Block}
-use Rattle.calls.specs.declared.Check.{Check}
-use Rattle.calls.specs.declared.Check.TheVariants.{Clear}
-use Rattle.calls.specs.declared.Checked.{Checked}
+use Rattle.calls.specs.Types.{Check, Checked}
+use Rattle.std.specs.Prelude.{Ok}
 use Rattle.calls.specs.Answers.{check_answer}
 use Rattle.calls.proofs.Laws.{Refuses, refuses, refusal, may, first_among, Within, within_among, first_within, then_within, if_within, covers, part_within}
-use Rattle.sheets.specs.declared.Saved.{Saved}
-use Rattle.sheets.specs.declared.Saving.{Saving}
+use Rattle.sheets.specs.Types.{Saved, Saving}
 use Rattle.sheets.specs.Sheet.{capacity_in}
 use Rattle.sheets.specs.Forms.{Form, size_of, room_check, saving_check, saved_answer_as, saving_answer, read_may, asked_sheet, block_check, head_check, sheet_check, reading_check, loaded_answer_as}
 use Rattle.sheets.specs.Promises.{SavesAs, LoadsAs}
@@ -71,11 +69,11 @@ module _ (F : Form) (s B : List ℕ) where
   loads_may h = may read_may h.1 loads_answers
 
 -- A board of 4,095 entries is never too short.
-lent_long : (C : ℕ) (B : List ℕ) → length B ≡ 4095 → open_check C B ≡ refuse_if (eqb C 0 || ltb 4095 C) Capacity Clear
+lent_long : (C : ℕ) (B : List ℕ) → length B ≡ 4095 → open_check C B ≡ refuse_if (eqb C 0 || ltb 4095 C) Capacity (Ok tt)
 unfolding open_check
 lent_long C B e = rw e (without (eqb C 0) (ltb 4095 C))
   where
-    without : (low high : Bool) → refuse_if (low || high) Capacity (refuse_if high Short Clear) ≡ refuse_if (low || high) Capacity Clear
+    without : (low high : Bool) → refuse_if (low || high) Capacity (refuse_if high Short (Ok tt)) ≡ refuse_if (low || high) Capacity (Ok tt)
     without true high = refl
     without false true = refl
     without false false = refl
@@ -99,12 +97,12 @@ module _ (F G : Form) (at : ℕ → Check) (s O : List ℕ) where
       let ns = numbers to_pieces_may in
       then_within ns (head_check s spare) (sheet_check F C s)
       (then_within ns (block_check (ltb (length s) 512)) (open_check C spare) (part to_pieces_may (Block ∷ []) (asked_sheet (ltb (length s) 512)) refl)
-      (rw (lent_long C spare spare_long) (if_within ns (eqb C 0 || ltb 4095 C) Capacity Clear refl refl)))
+      (rw (lent_long C spare spare_long) (if_within ns (eqb C 0 || ltb 4095 C) Capacity (Ok tt) refl refl)))
       (held_within F to_pieces_may C s refl refl)
 
   conversion_room : Within (numbers to_pieces_may) (room_check (length O) (size_from F G s))
   unfolding zero_or
-  conversion_room = if_within (numbers to_pieces_may) (ltb (length O) (size_from F G s)) Output Clear refl refl
+  conversion_room = if_within (numbers to_pieces_may) (ltb (length O) (size_from F G s)) Output (Ok tt) refl refl
 
   pub converts_may : (all : List Refusal) → covers (numbers all) (numbers to_pieces_may) ≡ true → Within (numbers all) (at (F.position s))
       → {r : Saving} {E : List ℕ} → Converts F G at s O r E → among (saving_answer r).number all ≡ true

@@ -6,17 +6,15 @@ use Prim.Native.Nat.{ℕ, ◌≤◌, ◌<◌}
 use native.Mathlib.Omega.{arith}
 use lib.ListN.{length, take, drop, replicate}
 use lib.Seq.{take_at, take_all}
-use borrow.Author.Tests.{le-ltb, eq-eqb, ne_eqb}
+use borrow.Author.Tests.{le-ltb, eq-eqb}
 use Rattle.pieces.specs.Board.{good}
 use Rattle.calls.specs.Refusals.{and_then}
 use Rattle.calls.specs.Results.{if_clear}
 use Rattle.calls.specs.declared.Refusal.{Refusal}
-use Rattle.calls.specs.declared.Refusal.TheVariants.{Midround}
-use Rattle.calls.specs.declared.Check.{Check}
-use Rattle.calls.specs.declared.Check.TheVariants.{Clear, Refused}
+use Rattle.calls.specs.Types.{Check}
+use Rattle.std.specs.Prelude.{Ok, Err}
 use Rattle.calls.proofs.Laws.{Sized, first_clear, open_clear}
-use Rattle.sheets.specs.declared.Saving.{Saving}
-use Rattle.sheets.specs.declared.Saving.TheVariants as saving
+use Rattle.sheets.specs.Types.{Saving}
 use Rattle.sheets.specs.Blocks.{Bytes, Words}
 use Rattle.sheets.specs.Sheet.{capacity_in}
 use Rattle.sheets.specs.Forms.{Form, Puts, room_check, saving_by, saving_answer, reading_check, loaded_board_as}
@@ -25,11 +23,8 @@ use Rattle.sheets.proofs.Checked.{saving_told, Readable, clear_read, read_clear,
 use Rattle.sheets.proofs.Trips.{Exact, saving_done, trip_readable}
 
 -- the position at which the leaf form is written
-pub at_start_lem : (p q : ℕ) → p ≡ q → p ≡ 1 → at_start q ≡ Clear
+pub at_start_lem : (p q : ℕ) → p ≡ q → p ≡ 1 → at_start q ≡ Ok tt
 at_start_lem p q e h = rw (← e, eq-eqb p 1 h) refl
-
-pub at_no_start : (p q : ℕ) → p ≡ q → (p ≡ 1 → ⊥) → at_start q ≡ Refused Midround
-at_no_start p q e h = rw (← e, ne_eqb p 1 h) refl
 
 -- what was read to idle entries l, by what its checks found
 module _ (F : Form) (s l : List ℕ) (k : Check) (idle : l ≡ replicate 4095 0) (found : k ≡ reading_check F s l) where
@@ -41,20 +36,20 @@ module _ (F : Form) (s l : List ℕ) (k : Check) (idle : l ≡ replicate 4095 0)
   unfolding spare
   spare_board = ap (loaded_board_as F s) (sym idle)
 
-  pub converts_not : (G : Form) (at : ℕ → Check) (O : List ℕ) (x : Refusal) → k ≡ Refused x → Converts F G at s O (saving.Refused x) O
+  pub converts_not : (G : Form) (at : ℕ → Check) (O : List ℕ) (x : Refusal) → k ≡ Err x → Converts F G at s O (Err x) O
   unfolding convert_check
   converts_not G at O x e = rw (spare_check ∙ e) (refl, refl, refl)
 
-  module _ (clear : k ≡ Clear) where
+  module _ (clear : k ≡ Ok tt) where
     pub read_sized : Readable F s l × Sized (capacity_in s) l
     read_sized = let r = clear_read F s l (sym found ∙ clear) in (r, open_clear (capacity_in s) l r.fitting)
 
-    pub converts_away : (G : Form) (at : ℕ → Check) (O : List ℕ) (x : Refusal) → at (F.position s) ≡ Refused x → Converts F G at s O (saving.Refused x) O
+    pub converts_away : (G : Form) (at : ℕ → Check) (O : List ℕ) (x : Refusal) → at (F.position s) ≡ Err x → Converts F G at s O (Err x) O
     unfolding convert_check
     converts_away G at O x e = rw (spare_check ∙ clear, e) (refl, refl, refl)
 
     pub converts_all : (G : Form) (at : ℕ → Check) (O : List ℕ) (c p : ℕ) (D : List ℕ) (a : Saving) (E : List ℕ) → c ≡ capacity_in s → p ≡ F.position s → D ≡ loaded_board_as F s l
-        → at (F.position s) ≡ Clear → Puts G c p D O a E → Converts F G at s O a E
+        → at (F.position s) ≡ Ok tt → Puts G c p D O a E → Converts F G at s O a E
     unfolding convert_check
     converts_all G at O c p D a E is_c is_p is_d e w =
         let board : board_from F s ≡ D = spare_board ∙ sym is_d in
@@ -78,12 +73,12 @@ module _ (F : Form) (s l : List ℕ) (k : Check) (idle : l ≡ replicate 4095 0)
 
 -- A sheet that converts converts back to the very same bytes, where its own form is written at its position: so the board, C and p are the same.
 module _ (F G : Form) (At Bt : ℕ → ℕ → Type 0) (x : Exact F At) (y : Exact G Bt) (at bt : ℕ → Check) where
-  module _ (s O P : List ℕ) (n : ℕ) (bytes : Bytes s) (words : Words (F.leaves (capacity_in s) s)) (done : converted F G at s O ≡ saving.Done n)
-      (onward : 0 < capacity_in s → At (capacity_in s) (F.position s) → Bt (capacity_in s) (F.position s)) (start : bt (F.position s) ≡ Clear) (room : length s ≤ length P) where
-    conversion_clear : convert_check F G at s (length O) ≡ Clear
+  module _ (s O P : List ℕ) (n : ℕ) (bytes : Bytes s) (words : Words (F.leaves (capacity_in s) s)) (done : converted F G at s O ≡ Ok n)
+      (onward : 0 < capacity_in s → At (capacity_in s) (F.position s) → Bt (capacity_in s) (F.position s)) (start : bt (F.position s) ≡ Ok tt) (room : length s ≤ length P) where
+    conversion_clear : convert_check F G at s (length O) ≡ Ok tt
     conversion_clear = (saving_done (convert_check F G at s (length O)) (size_from F G s) n done).0
 
-    was_read : reading_check F s spare ≡ Clear
+    was_read : reading_check F s spare ≡ Ok tt
     unfolding convert_check
     was_read = first_clear (reading_check F s spare) (and_then (at (F.position s)) (room_check (length O) (size_from F G s))) conversion_clear
 
@@ -120,7 +115,7 @@ module _ (F G : Form) (At Bt : ℕ → ℕ → Type 0) (x : Exact F At) (y : Exa
     sound : good (capacity_in s) (F.leaves (capacity_in s) s) ≡ true
     sound = check_good (capacity_in s) (F.leaves (capacity_in s) s) readable.good
 
-    over_read : reading_check G over spare ≡ Clear
+    over_read : reading_check G over spare ≡ Ok tt
     unfolding over
     over_read = read_clear G over spare (trip_readable G Bt y (capacity_in s) (F.position s) (F.leaves (capacity_in s) s) spare words leaves_sized sound bound lent.long)
 
@@ -149,15 +144,15 @@ module _ (F G : Form) (At Bt : ℕ → ℕ → Type 0) (x : Exact F At) (y : Exa
     again_size =
         ap (λ (c : ℕ). F.size c (board_from G over)) over_capacity ∙ sym (x.long (capacity_in s) (F.position s) (board_from G over)) ∙ ap length again
 
-    again_clear : convert_check G F bt over (length P) ≡ Clear
+    again_clear : convert_check G F bt over (length P) ≡ Ok tt
     unfolding convert_check
     again_clear = rw (over_read, over_position, start) (ap (λ (m : ℕ). room_check (length P) m) again_size ∙ rw (le-ltb (length P) (length s) room) refl)
 
     pub there_and_back :
-        (converted G F bt (take n (converted_output F G at s O)) P ≡ saving.Done (length s))
+        (converted G F bt (take n (converted_output F G at s O)) P ≡ Ok (length s))
         × (converted_output G F bt (take n (converted_output F G at s O)) P ≡ s ++ drop (length s) P)
     there_and_back = rw (written, again_clear) (
-      ap (saving_by Clear) again_size,
+      ap (saving_by (Ok tt)) again_size,
       ap (λ (c : ℕ). F.sheet c (G.position over) (board_from G over) ++ drop (F.size c (board_from G over)) P) over_capacity
           ∙ ap (λ (p : ℕ). F.sheet (capacity_in s) p (board_from G over) ++ drop (F.size (capacity_in s) (board_from G over)) P) over_position
           ∙ ap (λ (q : List ℕ). q ++ drop (F.size (capacity_in s) (board_from G over)) P) again

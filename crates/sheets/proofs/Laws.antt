@@ -17,15 +17,12 @@ use Rattle.calls.specs.Records.{drive_at}
 use Rattle.calls.specs.Refusals.{and_then, zero_or, numbers, among, position_check}
 use Rattle.calls.specs.declared.Drive.{Drive}
 use Rattle.calls.specs.declared.Refusal.TheVariants.{Midround, Block}
-use Rattle.calls.specs.declared.Check.{Check}
-use Rattle.calls.specs.declared.Check.TheVariants.{Clear, Refused}
-use Rattle.calls.specs.declared.Checked.{Checked}
+use Rattle.calls.specs.Types.{Check, Checked}
+use Rattle.std.specs.Prelude.{Ok, Err}
 use Rattle.calls.specs.Answers.{check_answer}
 use Rattle.calls.specs.Results.{if_clear}
 use Rattle.calls.proofs.Laws.{Refuses, if_within, covers, ascending, Sized, open_clear, open_sized, slot_sized, slot_parts, position_first, change_parts, change_slot, change_start, change_good}
-use Rattle.sheets.specs.declared.Saved.{Saved}
-use Rattle.sheets.specs.declared.Saving.{Saving}
-use Rattle.sheets.specs.declared.Saving.TheVariants as saving
+use Rattle.sheets.specs.Types.{Saved, Saving}
 use Rattle.sheets.specs.Blocks.{Bytes, Words, values_from, bytes_of, number_at, block, stack}
 use Rattle.sheets.specs.Sheet.{blocks, leaf_or_zero, page, sheet, capacity_in, leaf_place, leaf_in, sheet_leaves, laid, Layout}
 use Rattle.sheets.specs.Entries.{entry_blocks, entry_page, entry_bytes, entry_sheet, position_in, spelled, entries_laid}
@@ -49,7 +46,7 @@ pub use Rattle.sheets.proofs.Faults.{entries_laid_layout, layout_entries_laid, e
 pub use Rattle.sheets.proofs.Checked.{save_parts, entry_parts, head_long, head_open}
 
 -- what passes the checks of save
-save_first : (C : ℕ) (B : List ℕ) (n : ℕ) → Sized C B → good C B ≡ true → 512 * blocks C ≤ n → save_check (drive_at C 1) B n ≡ Clear
+save_first : (C : ℕ) (B : List ℕ) (n : ℕ) → Sized C B → good C B ≡ true → 512 * blocks C ≤ n → save_check (drive_at C 1) B n ≡ Ok tt
 save_first C B n s g room = save_parts (drive_at C 1) B n
     ∙ rw (change_parts (drive_at C 1) B, slot_parts (drive_at C 1) B, open_sized C B s, position_first C s.some, good_check_lem C B g, le-ltb n (512 * blocks C) room)
 
@@ -109,9 +106,9 @@ leaves_exact = record {
 }
 
 -- Demand 2: what save writes reads back as the same board and capacity. B is the board saved, of u16 leaves, O the output and L the board lent to read.
-module _ (d : Drive) (B O L : List ℕ) (n : ℕ) (words : Words B) (done : (saved d B O).answer ≡ saving.Done n) (room : d.capacity ≤ length L) where
+module _ (d : Drive) (B O L : List ℕ) (n : ℕ) (words : Words B) (done : (saved d B O).answer ≡ Ok n) (room : d.capacity ≤ length L) where
   pub demand_2_saved_reads_back :
-      (loaded (take n (saved_output d B O)) L ≡ record { drive = drive_at d.capacity 1; answer = Clear })
+      (loaded (take n (saved_output d B O)) L ≡ record { drive = drive_at d.capacity 1; answer = (Ok tt) })
       × (loaded_board (take n (saved_output d B O)) L ≡ take d.capacity B ++ drop d.capacity L)
   demand_2_saved_reads_back =
       let e = saved_reads_back leaf_form (λ C p. p ≡ 1) leaves_exact d B O L n words done room in
@@ -119,7 +116,7 @@ module _ (d : Drive) (B O L : List ℕ) (n : ℕ) (words : Words B) (done : (sav
       (e.0 ∙ rw at refl, e.1)
 
 -- What read accepts is a board that passes the checks: long enough, and good. L is the board lent to read.
-module _ (s L : List ℕ) (accepted : read_check s L ≡ Clear) where
+module _ (s L : List ℕ) (accepted : read_check s L ≡ Ok tt) where
   pub read_sized : Sized (capacity_in s) (sheet_leaves (capacity_in s) s ++ drop (capacity_in s) L)
   read_sized = accepted_sized leaf_form (λ C p. p ≡ 1) leaves_exact s L accepted
 
@@ -127,57 +124,57 @@ module _ (s L : List ℕ) (accepted : read_check s L ≡ Clear) where
   read_good = accepted_good leaf_form (λ C p. p ≡ 1) leaves_exact s L accepted
 
 -- Demand 2: whatever bytes read accepts are the very bytes that save writes for the board that it sets. L is the board lent to read, O an output with room.
-module _ (s L O : List ℕ) (bytes : Bytes s) (done : (loaded s L).answer ≡ Clear) (room : length s ≤ length O) where
+module _ (s L O : List ℕ) (bytes : Bytes s) (done : (loaded s L).answer ≡ Ok tt) (room : length s ≤ length O) where
   pub demand_2_only_such_sheets :
-      (saved (loaded s L).drive (loaded_board s L) O ≡ record { drive = (loaded s L).drive; answer = saving.Done (length s) })
+      (saved (loaded s L).drive (loaded_board s L) O ≡ record { drive = (loaded s L).drive; answer = Ok (length s) })
       × (saved_output (loaded s L).drive (loaded_board s L) O ≡ s ++ drop (length s) O)
   demand_2_only_such_sheets = only_such_sheets leaf_form (λ C p. p ≡ 1) leaves_exact s L O bytes done room
 
 -- ---- the piece form
 
 -- Demand 2: what save_pieces writes reads back as the same board, capacity and position.
-module _ (d : Drive) (B O L : List ℕ) (n : ℕ) (words : Words B) (done : (saved_as piece_form d B O).answer ≡ saving.Done n) (room : d.capacity ≤ length L) where
+module _ (d : Drive) (B O L : List ℕ) (n : ℕ) (words : Words B) (done : (saved_as piece_form d B O).answer ≡ Ok n) (room : d.capacity ≤ length L) where
   pub demand_2_pieces_read_back :
-      (loaded_as piece_form (take n (saved_output_as piece_form d B O)) L ≡ record { drive = drive_at d.capacity d.position; answer = Clear })
+      (loaded_as piece_form (take n (saved_output_as piece_form d B O)) L ≡ record { drive = drive_at d.capacity d.position; answer = (Ok tt) })
       × (loaded_board_as piece_form (take n (saved_output_as piece_form d B O)) L ≡ take d.capacity B ++ drop d.capacity L)
-  demand_2_pieces_read_back = saved_reads_back piece_form (λ C p. position_check C p ≡ Clear) entries_exact d B O L n words done room
+  demand_2_pieces_read_back = saved_reads_back piece_form (λ C p. position_check C p ≡ Ok tt) entries_exact d B O L n words done room
 
 -- Demand 2: whatever bytes read_pieces accepts are the very bytes that save_pieces writes for the board and the position that it sets.
-module _ (s L O : List ℕ) (bytes : Bytes s) (done : (loaded_as piece_form s L).answer ≡ Clear) (room : length s ≤ length O) where
+module _ (s L O : List ℕ) (bytes : Bytes s) (done : (loaded_as piece_form s L).answer ≡ Ok tt) (room : length s ≤ length O) where
   pub demand_2_only_such_pieces :
-      (saved_as piece_form (loaded_as piece_form s L).drive (loaded_board_as piece_form s L) O ≡ record { drive = (loaded_as piece_form s L).drive; answer = saving.Done (length s) })
+      (saved_as piece_form (loaded_as piece_form s L).drive (loaded_board_as piece_form s L) O ≡ record { drive = (loaded_as piece_form s L).drive; answer = Ok (length s) })
       × (saved_output_as piece_form (loaded_as piece_form s L).drive (loaded_board_as piece_form s L) O ≡ s ++ drop (length s) O)
-  demand_2_only_such_pieces = only_such_sheets piece_form (λ C p. position_check C p ≡ Clear) entries_exact s L O bytes done room
+  demand_2_only_such_pieces = only_such_sheets piece_form (λ C p. position_check C p ≡ Ok tt) entries_exact s L O bytes done room
 
 -- What read_pieces accepts is a board that passes the checks, at a position of it. L is the board lent to read.
-module _ (s L : List ℕ) (accepted : reading_check piece_form s L ≡ Clear) where
+module _ (s L : List ℕ) (accepted : reading_check piece_form s L ≡ Ok tt) where
   pub read_pieces_sized : Sized (capacity_in s) (spelled (capacity_in s) s ++ drop (capacity_in s) L)
-  read_pieces_sized = accepted_sized piece_form (λ C p. position_check C p ≡ Clear) entries_exact s L accepted
+  read_pieces_sized = accepted_sized piece_form (λ C p. position_check C p ≡ Ok tt) entries_exact s L accepted
 
   pub read_pieces_good : good (capacity_in s) (spelled (capacity_in s) s ++ drop (capacity_in s) L) ≡ true
-  read_pieces_good = accepted_good piece_form (λ C p. position_check C p ≡ Clear) entries_exact s L accepted
+  read_pieces_good = accepted_good piece_form (λ C p. position_check C p ≡ Ok tt) entries_exact s L accepted
 
-  pub read_pieces_position : position_check (capacity_in s) (position_in s) ≡ Clear
+  pub read_pieces_position : position_check (capacity_in s) (position_in s) ≡ Ok tt
   read_pieces_position = (entries_laid_parts (capacity_in s) s (clear_read piece_form s L accepted).keeps).0
 
 -- ---- each reader and the other's sheets
 
 -- What a reader answers to bytes that do not keep its layout: 12 after its earlier checks, and the board as it was.
 module _ (F : Form) (s L : List ℕ) (other : 0 < capacity_in s → F.laid (capacity_in s) s ≡ false) where
-  pub other_check : reading_check F s L ≡ and_then (head_check s L) (Refused Block)
+  pub other_check : reading_check F s L ≡ and_then (head_check s L) (Err Block)
   unfolding reading_check
   other_check = by_check (head_check s L) refl
     where
-      by_check : (k : Check) → head_check s L ≡ k → and_then k (sheet_check F (capacity_in s) s) ≡ and_then k (Refused Block)
-      by_check Clear e = rw (other (open_clear (capacity_in s) L (head_open s L e)).some, refused_block) refl
-      by_check (Refused r) e = refl
+      by_check : (k : Check) → head_check s L ≡ k → and_then k (sheet_check F (capacity_in s) s) ≡ and_then k (Err Block)
+      by_check (Ok tt) e = rw (other (open_clear (capacity_in s) L (head_open s L e)).some, refused_block) refl
+      by_check (Err r) e = refl
 
   pub other_board : loaded_board_as F s L ≡ L
   other_board = rw other_check (never (head_check s L))
     where
-      never : (k : Check) → if_clear (and_then k (Refused Block)) (F.leaves (capacity_in s) s ++ drop (capacity_in s) L) L ≡ L
-      never Clear = refl
-      never (Refused r) = refl
+      never : (k : Check) → if_clear (and_then k (Err Block)) (F.leaves (capacity_in s) s ++ drop (capacity_in s) L) L ≡ L
+      never (Ok tt) = refl
+      never (Err r) = refl
 
 -- block 0 of a sheet of pieces
 entry_zero : (C p : ℕ) (B : List ℕ) → number_at (entry_sheet C p B) 0 ≡ 32768
@@ -188,7 +185,7 @@ entry_zero C p B =
 
 -- An old reader answers 12 to any sheet of pieces that gets past its earlier checks, and never shows a board.
 pub old_reader : (C p : ℕ) (B L : List ℕ) → let s = entry_sheet C p B in
-    (read_check s L ≡ and_then (head_check s L) (Refused Block)) × (loaded_board s L ≡ L)
+    (read_check s L ≡ and_then (head_check s L) (Err Block)) × (loaded_board s L ≡ L)
 old_reader C p B L =
     let s = entry_sheet C p B in
     let other : 0 < capacity_in s → laid (capacity_in s) s ≡ false =
@@ -198,7 +195,7 @@ old_reader C p B L =
 
 -- And the new reader the same to any sheet of leaves.
 pub new_reader : (C : ℕ) (B L : List ℕ) → 0 < C → C < 65536 → Words B → let s = sheet C B in
-    (reading_check piece_form s L ≡ and_then (head_check s L) (Refused Block)) × (loaded_board_as piece_form s L ≡ L)
+    (reading_check piece_form s L ≡ and_then (head_check s L) (Err Block)) × (loaded_board_as piece_form s L ≡ L)
 new_reader C B L some few words =
     let s = sheet C B in
     let first = sheet_first C s some (sheet_layout C B few words) in
@@ -212,21 +209,21 @@ new_reader C B L some few words =
 -- ---- conversions
 
 -- A sheet of leaves that is written as one of pieces is written back as the very same sheet,
-module _ (s O P : List ℕ) (n : ℕ) (bytes : Bytes s) (done : converted leaf_form piece_form anywhere s O ≡ saving.Done n) (room : length s ≤ length P) where
+module _ (s O P : List ℕ) (n : ℕ) (bytes : Bytes s) (done : converted leaf_form piece_form anywhere s O ≡ Ok n) (room : length s ≤ length P) where
   pub leaves_there_and_back :
-      (converted piece_form leaf_form at_start (take n (converted_output leaf_form piece_form anywhere s O)) P ≡ saving.Done (length s))
+      (converted piece_form leaf_form at_start (take n (converted_output leaf_form piece_form anywhere s O)) P ≡ Ok (length s))
       × (converted_output piece_form leaf_form at_start (take n (converted_output leaf_form piece_form anywhere s O)) P ≡ s ++ drop (length s) P)
   leaves_there_and_back =
-      there_and_back leaf_form piece_form (λ C p. p ≡ 1) (λ C p. position_check C p ≡ Clear) leaves_exact entries_exact anywhere at_start s O P n bytes
+      there_and_back leaf_form piece_form (λ C p. p ≡ 1) (λ C p. position_check C p ≡ Ok tt) leaves_exact entries_exact anywhere at_start s O P n bytes
       (leaves_words (capacity_in s) s bytes) done (λ some at. position_first (capacity_in s) some) refl room
 
 -- and so is one of pieces saved at p = 1 that is written as one of leaves.
-module _ (s O P : List ℕ) (n : ℕ) (bytes : Bytes s) (first : position_in s ≡ 1) (done : converted piece_form leaf_form at_start s O ≡ saving.Done n) (room : length s ≤ length P) where
+module _ (s O P : List ℕ) (n : ℕ) (bytes : Bytes s) (first : position_in s ≡ 1) (done : converted piece_form leaf_form at_start s O ≡ Ok n) (room : length s ≤ length P) where
   pub pieces_there_and_back :
-      (converted leaf_form piece_form anywhere (take n (converted_output piece_form leaf_form at_start s O)) P ≡ saving.Done (length s))
+      (converted leaf_form piece_form anywhere (take n (converted_output piece_form leaf_form at_start s O)) P ≡ Ok (length s))
       × (converted_output leaf_form piece_form anywhere (take n (converted_output piece_form leaf_form at_start s O)) P ≡ s ++ drop (length s) P)
   pieces_there_and_back =
-      there_and_back piece_form leaf_form (λ C p. position_check C p ≡ Clear) (λ C p. p ≡ 1) entries_exact leaves_exact at_start anywhere s O P n bytes
+      there_and_back piece_form leaf_form (λ C p. position_check C p ≡ Ok tt) (λ C p. p ≡ 1) entries_exact leaves_exact at_start anywhere s O P n bytes
       (spelled_words (capacity_in s) s bytes) done (λ some at. first) refl room
 
 -- ---- answers
@@ -313,4 +310,4 @@ module _ (s O : List ℕ) where
 
   pub to_leaves_may_lem : {r : Saving} {E : List ℕ} → ToLeaves s O r E → among (saving_answer r).number to_leaves_may ≡ true
   unfolding covers zero_or
-  to_leaves_may_lem = converts_may piece_form leaf_form at_start s O to_leaves_may refl (if_within (numbers to_leaves_may) (not (eqb (position_in s) 1)) Midround Clear refl refl)
+  to_leaves_may_lem = converts_may piece_form leaf_form at_start s O to_leaves_may refl (if_within (numbers to_leaves_may) (not (eqb (position_in s) 1)) Midround (Ok tt) refl refl)

@@ -18,7 +18,7 @@ use Rattle.pieces.proofs.Laws.{whole_elim, whole_end, leaf_whole, named_past, na
 use Rattle.sequences.proofs.Laws.{digits_le}
 use Rattle.calls.specs.Records.{drive_at}
 use Rattle.calls.specs.Refusals.{open_check, position_check, is_clear}
-use Rattle.calls.specs.declared.Check.TheVariants.{Clear}
+use Rattle.std.specs.Prelude.{Ok}
 use Rattle.calls.proofs.Laws.{Sized, is_clear_lem, then_clear, open_sized, slot_sized, slot_parts, slot_position}
 use Rattle.sheets.specs.Blocks.{Words, values_from, sum_of, number_at}
 use Rattle.sheets.specs.Sheet.{leaf_or_zero, capacity_in}
@@ -27,7 +27,8 @@ use Rattle.sheets.specs.Forms.{size_of}
 use Rattle.sheets.specs.Results.{piece_form}
 use Rattle.sheets.proofs.Lists.{values_at}
 use Rattle.sheets.proofs.Pages.{number_written, capacity_written, held_written, sum_written}
-use Rattle.sheets.proofs.Spelling.{held_entries, entry_number, entries_full, entry_sheet_length, readable_idle, readable_intro, spell_more, spell_stop, spell_end, spelled_length}
+use Rattle.sheets.specs.Lawful.{entry_number, entries_held, entries_full}
+use Rattle.sheets.proofs.Spelling.{entry_sheet_length, readable_idle, readable_intro, spell_more, spell_stop, spell_end, spelled_length}
 use Rattle.sheets.proofs.Checked.{good_check_lem, entry_parts, entry_slot, entry_good, entry_room}
 use Rattle.sheets.proofs.Trips.{Exact}
 
@@ -200,12 +201,12 @@ spelled_board f C few B long n u room last =
 -- ---- the numbers of a sheet of pieces
 
 -- the position is a sixteen-bit number
-pub position_small : (C p : ℕ) (B : List ℕ) → Sized C B → position_check C p ≡ Clear → p < 65536
+pub position_small : (C p : ℕ) (B : List ℕ) → Sized C B → position_check C p ≡ Ok tt → p < 65536
 position_small C p B sized at =
     let position = slot_position (drive_at C p) B (slot_parts (drive_at C p) B ∙ rw (open_sized C B sized) at) in
     omega (arith, position.last, digits_le C sized.some, sized.few)
 
-module _ (C p : ℕ) (B : List ℕ) (sized : Sized C B) (words : Words B) (at : position_check C p ≡ Clear) where
+module _ (C p : ℕ) (B : List ℕ) (sized : Sized C B) (words : Words B) (at : position_check C p ≡ Ok tt) where
   list_few : length (named_pieces C B) ≤ 12288
   list_few = named_few C B 12 0
 
@@ -220,7 +221,7 @@ module _ (C p : ℕ) (B : List ℕ) (sized : Sized C B) (words : Words B) (at : 
   unfolding entry_blocks
   numbers_low b h = omega (arith, list_few)
 
-  held_low : (b j : ℕ) → b < entry_blocks (length (named_pieces C B)) → j < 253 → get_or (held_entries p (length (named_pieces C B)) (named_pieces C B) b) j 0 < 65536
+  held_low : (b j : ℕ) → b < entry_blocks (length (named_pieces C B)) → j < 253 → get_or (entries_held p (named_pieces C B) b) j 0 < 65536
   held_low b zero h l = position_small C p B sized at
   held_low b (suc j) h l =
       let k : j < 252 = omega arith in
@@ -231,13 +232,13 @@ module _ (C p : ℕ) (B : List ℕ) (sized : Sized C B) (words : Words B) (at : 
   unfolding capacity_in entry_sheet entry_bytes entry_page entry_blocks
   entry_capacity =
       let L = named_pieces C B in
-      capacity_written entry_number C (held_entries p (length L) L) (entries_full C p (length L) L) (entry_blocks (length L)) low numbers_low held_low 0 (omega arith)
+      capacity_written entry_number C (entries_held p L) (entries_full p L) (entry_blocks (length L)) low numbers_low held_low 0 (omega arith)
 
   pub entry_position : position_in (entry_sheet C p B) ≡ p
   unfolding position_in entry_sheet entry_bytes entry_page entry_blocks
   entry_position =
       let L = named_pieces C B in
-      held_written entry_number C (held_entries p (length L) L) (entries_full C p (length L) L) (entry_blocks (length L)) low numbers_low held_low 0 0 (omega arith) (omega arith)
+      held_written entry_number C (entries_held p L) (entries_full p L) (entry_blocks (length L)) low numbers_low held_low 0 0 (omega arith) (omega arith)
 
   -- the same of every block
   module _ (b : ℕ) (h : b < entry_blocks (length (named_pieces C B))) where
@@ -245,25 +246,25 @@ module _ (C p : ℕ) (B : List ℕ) (sized : Sized C B) (words : Words B) (at : 
     unfolding entry_sheet entry_bytes entry_page
     block_number =
         let L = named_pieces C B in
-        number_written entry_number C (held_entries p (length L) L) (entries_full C p (length L) L) (entry_blocks (length L)) low numbers_low held_low b h
+        number_written entry_number C (entries_held p L) (entries_full p L) (entry_blocks (length L)) low numbers_low held_low b h
 
     pub block_capacity : number_at (entry_sheet C p B) (256 * b + 1) ≡ C
     unfolding entry_sheet entry_bytes entry_page
     block_capacity =
         let L = named_pieces C B in
-        capacity_written entry_number C (held_entries p (length L) L) (entries_full C p (length L) L) (entry_blocks (length L)) low numbers_low held_low b h
+        capacity_written entry_number C (entries_held p L) (entries_full p L) (entry_blocks (length L)) low numbers_low held_low b h
 
     pub block_position : number_at (entry_sheet C p B) (256 * b + 2) ≡ p
     unfolding entry_sheet entry_bytes entry_page
     block_position =
         let L = named_pieces C B in
-        held_written entry_number C (held_entries p (length L) L) (entries_full C p (length L) L) (entry_blocks (length L)) low numbers_low held_low b 0 h (omega arith)
+        held_written entry_number C (entries_held p L) (entries_full p L) (entry_blocks (length L)) low numbers_low held_low b 0 h (omega arith)
 
     pub block_total : sum_of (values_from (number_at (entry_sheet C p B)) (256 * b) 256) % 65536 ≡ 0
     unfolding entry_sheet entry_bytes entry_page
     block_total =
         let L = named_pieces C B in
-        sum_written entry_number C (held_entries p (length L) L) (entries_full C p (length L) L) (entry_blocks (length L)) low numbers_low held_low b h
+        sum_written entry_number C (entries_held p L) (entries_full p L) (entry_blocks (length L)) low numbers_low held_low b h
 
   -- the entries that it holds are the pieces, and zeros after them
   pub entry_number_lem : (i : ℕ) → i < 252 * entry_blocks (length (named_pieces C B)) → entry_in (entry_sheet C p B) i ≡ get_or (named_pieces C B) i 0
@@ -275,7 +276,7 @@ module _ (C p : ℕ) (B : List ℕ) (sized : Sized C B) (words : Words B) (at : 
       let e : 3 + j ≡ 2 + suc j = omega arith in
       let d : 252 * b + j ≡ i = omega arith in
       ap (λ (k : ℕ). number_at (entry_sheet C p B) (256 * b + k)) e
-      ∙ held_written entry_number C (held_entries p (length L) L) (entries_full C p (length L) L) (entry_blocks (length L)) low numbers_low held_low b (suc j) (omega arith) (omega arith)
+      ∙ held_written entry_number C (entries_held p L) (entries_full p L) (entry_blocks (length L)) low numbers_low held_low b (suc j) (omega arith) (omega arith)
       ∙ values_at (leaf_or_zero (length L) L) (252 * b) 252 j (omega arith) ∙ list_word (252 * b + j) ∙ ap (λ (k : ℕ). get_or L k 0) d
 
   list_fits : length (named_pieces C B) ≤ 252 * entry_blocks (length (named_pieces C B))
@@ -304,24 +305,24 @@ unfolding entry_sheet
 entry_taken C p B D e = ap (λ (L : List ℕ). entry_bytes C p (length L) L)
     (named_same C B D (λ i h. sym (get_or-take C B i 0 h) ∙ ap (λ (L : List ℕ). get_or L i 0) e ∙ get_or-take C D i 0 h) 0 12)
 
-pub entries_laid_parts : (C : ℕ) (s : List ℕ) → entries_laid C s ≡ true → (position_check C (position_in s) ≡ Clear) × (s ≡ entry_sheet C (position_in s) (spelled C s))
+pub entries_laid_parts : (C : ℕ) (s : List ℕ) → entries_laid C s ≡ true → (position_check C (position_in s) ≡ Ok tt) × (s ≡ entry_sheet C (position_in s) (spelled C s))
 unfolding entries_laid
 entries_laid_parts C s h =
     let at = is_clear (position_check C (position_in s)) in
     let is = same s (entry_sheet C (position_in s) (spelled C s)) in
     (is_clear_lem (position_check C (position_in s)) (and_left at is h), same_true s (entry_sheet C (position_in s) (spelled C s)) (and_right at is h))
 
-pub parts_entries_laid : (C : ℕ) (s : List ℕ) → position_check C (position_in s) ≡ Clear → s ≡ entry_sheet C (position_in s) (spelled C s) → entries_laid C s ≡ true
+pub parts_entries_laid : (C : ℕ) (s : List ℕ) → position_check C (position_in s) ≡ Ok tt → s ≡ entry_sheet C (position_in s) (spelled C s) → entries_laid C s ≡ true
 unfolding entries_laid
 parts_entries_laid C s at is = rw at (true_same s (entry_sheet C (position_in s) (spelled C s)) is)
 
-entry_laid : (C p : ℕ) (B : List ℕ) → Sized C B → Words B → position_check C p ≡ Clear → entries_laid C (entry_sheet C p B) ≡ true
+entry_laid : (C p : ℕ) (B : List ℕ) → Sized C B → Words B → position_check C p ≡ Ok tt → entries_laid C (entry_sheet C p B) ≡ true
 entry_laid C p B s w at =
     let q = entry_position C p B s w at in
     parts_entries_laid C (entry_sheet C p B) (rw q at)
     (rw (q, entry_leaves C p B s w at) (entry_taken C p B (take C B) (sym (take_all C (take C B) (omega (arith, length-take-le C B s.long))))))
 
-pub entries_exact : Exact piece_form (λ C p. position_check C p ≡ Clear)
+pub entries_exact : Exact piece_form (λ C p. position_check C p ≡ Ok tt)
 unfolding entry_blocks
 entries_exact = record {
   asks = λ d B n e.

@@ -1,16 +1,15 @@
 -- A sheet of one form written as one of another: document 02, No. 9. Assumes nothing.
-use Rattle.std.specs.Prelude.{◌≡◌, not, List, [], ◌∷◌, ◌++◌, ℕ, eqb, length, drop, replicate}
+use Rattle.std.specs.Prelude.{◌≡◌, not, List, [], ◌∷◌, ◌++◌, ℕ, eqb, length, drop, replicate, Ok}
 use Rattle.calls.specs.Refusals.{refuse_if, and_then}
 use Rattle.calls.specs.Answers.{Answer, answered}
 use Rattle.calls.specs.Results.{if_clear}
 use Rattle.calls.specs.declared.Refusal.{Refusal}
 use Rattle.calls.specs.declared.Refusal.TheVariants.{Capacity, Midround, Damaged, Output, Block}
-use Rattle.calls.specs.declared.Check.{Check}
-use Rattle.calls.specs.declared.Check.TheVariants.{Clear}
+use Rattle.calls.specs.Types.{Check}
 use Rattle.sheets.specs.Sheet.{capacity_in}
 use Rattle.sheets.specs.Forms.{Form, room_check, reading_check, loaded_board_as, saving_by, saving_answer}
 use Rattle.sheets.specs.Results.{leaf_form, piece_form}
-use Rattle.sheets.specs.declared.Saving.{Saving}
+use Rattle.sheets.specs.Types.{Saving}
 
 -- A conversion reads to a board of its own that no capacity in range exceeds, so that it checks as read does without 2.
 unfoldable pub spare : List ℕ
@@ -18,10 +17,10 @@ spare = replicate 4095 0
 
 -- the position that a form can be written at: 4 for the leaf form away from p = 1
 abbrev pub at_start : ℕ → Check
-at_start p = refuse_if (not (eqb p 1)) Midround Clear
+at_start p = refuse_if (not (eqb p 1)) Midround (Ok tt)
 
 abbrev pub anywhere : ℕ → Check
-anywhere p = Clear
+anywhere p = Ok tt
 
 -- the board read, and the bytes that the other form needs for it
 abbrev pub board_from : Form → List ℕ → List ℕ

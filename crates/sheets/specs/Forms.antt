@@ -1,20 +1,16 @@
 -- What save and read return and leave in each slice that they were lent, for every input and for any form of sheet: document 01, "Calls and
 -- refusal numbers" and "The sheet". A refused save gives back the record that it was given, a refused read one with C and p zero; neither
 -- changes a slice. Assumes nothing.
-use Rattle.std.specs.Prelude.{◌≡◌, Bool, not, List, [], ◌∷◌, ◌++◌, ℕ, ltb, length, drop}
+use Rattle.std.specs.Prelude.{◌≡◌, Bool, not, List, [], ◌∷◌, ◌++◌, ℕ, ltb, length, drop, Ok, Err}
 use Rattle.calls.specs.Refusals.{Asked, refuse_if, first_of, and_then, asked_output, number_of, open_check, good_check}
 use Rattle.calls.specs.Answers.{Answer, answered, check_answer}
 use Rattle.calls.specs.Results.{if_clear, set_by}
 use Rattle.calls.specs.declared.Drive.{Drive}
 use Rattle.calls.specs.declared.Refusal.{Refusal}
 use Rattle.calls.specs.declared.Refusal.TheVariants.{Capacity, Short, Damaged, Output, Block}
-use Rattle.calls.specs.declared.Check.{Check}
-use Rattle.calls.specs.declared.Check.TheVariants.{Clear, Refused}
-use Rattle.calls.specs.declared.Checked.{Checked}
+use Rattle.calls.specs.Types.{Check, Checked}
 use Rattle.sheets.specs.Sheet.{capacity_in}
-use Rattle.sheets.specs.declared.Saved.{Saved}
-use Rattle.sheets.specs.declared.Saving.{Saving}
-use Rattle.sheets.specs.declared.Saving.TheVariants as saving
+use Rattle.sheets.specs.Types.{Saved, Saving}
 
 -- A form of sheet: what save of it may refuse, in its order; the bytes for C, p and a board, and how many they are; and of some bytes, given
 -- their C, whether they keep its layout, and the position and the leaves that they hold.
@@ -28,17 +24,17 @@ pub record Form : Type 0 where
 
 -- Document 01's number and values: save has one value, the bytes written.
 abbrev pub saving_answer : Saving → Answer
-saving_answer (saving.Done bytes) = record { number = 0; values = bytes ∷ [] }
-saving_answer (saving.Refused r) = record { number = number_of r; values = 0 ∷ [] }
+saving_answer (Ok bytes) = record { number = 0; values = bytes ∷ [] }
+saving_answer (Err r) = record { number = number_of r; values = 0 ∷ [] }
 
 -- The answer of save, by what the checks find.
 abbrev pub saving_by : Check → ℕ → Saving
-saving_by Clear bytes = saving.Done bytes
-saving_by (Refused r) bytes = saving.Refused r
+saving_by (Ok tt) bytes = Ok bytes
+saving_by (Err r) bytes = Err r
 
 -- 11, of an output of n bytes where so many are needed.
 abbrev pub room_check : ℕ → ℕ → Check
-room_check n needed = refuse_if (ltb n needed) Output Clear
+room_check n needed = refuse_if (ltb n needed) Output (Ok tt)
 
 -- save: the sheet's bytes at the start of the output, and how many they are.
 abbrev pub size_of : Form → Drive → List ℕ → ℕ

@@ -6,13 +6,12 @@ use Rattle.calls.specs.Answers.{Answer}
 use Rattle.calls.specs.declared.Drive.{Drive}
 use Rattle.calls.specs.declared.Refusal.{Refusal}
 use Rattle.calls.specs.declared.Refusal.TheVariants.{Capacity, Short, Position, Midround, Damaged, Output}
-use Rattle.calls.specs.declared.Check.{Check}
-use Rattle.calls.specs.declared.Checked.{Checked}
+use Rattle.calls.specs.Types.{Check, Checked}
 use Rattle.sheets.specs.Sheet.{blocks, sheet, sheet_leaves, laid}
 use Rattle.sheets.specs.Entries.{entry_blocks, entry_sheet, position_in, spelled, entries_laid}
 pub use Rattle.sheets.specs.Forms.{saving_answer, saving_by, asked_sheet, block_check, head_check, read_may}
 use Rattle.sheets.specs.Forms.{Form, saving_check, saved_as, saved_answer_as, saved_output_as, reading_check, loaded_as, loaded_answer_as, loaded_board_as}
-use Rattle.sheets.specs.declared.Saved.{Saved}
+use Rattle.sheets.specs.Types.{Saved}
 
 -- ---- the leaf form: saved and read at p = 1 alone
 

@@ -1,5 +1,5 @@
 // Whether tables fit a board: the one condition of DAMAGED where tables are lent.
-ghost use Rattle.std.specs.Prelude.{◌≡◌, true, ◌||◌, [], ◌∷◌, ℕ, ◌+◌, ◌-◌, ◌≤◌, ◌<◌, eqb, ltb, length};
+ghost use Rattle.std.specs.Prelude.{◌≡◌, true, ◌||◌, [], ◌∷◌, ℕ, ◌+◌, ◌≤◌, ◌<◌, eqb, ltb, length};
 ghost use Rattle.names.specs.Table.{Table, number_under};
 ghost use Rattle.pieces.specs.Board.{good, weight};
 ghost use Rattle.tables.specs.Sharing as sharing;
@@ -15,7 +15,7 @@ fn four(table: &[u16], i: usize) -> u32
     table[i] as u32 + table[i + 1] as u32 + table[i + 2] as u32 + table[i + 3] as u32
 }
 
-// Skips entries from i on that are 0, eight at a time.
+// Skips entries from i on that are 0, eight at a time: one by one, as `position` goes, takes twice as long, and over `chunks(8)` it is slower too.
 fn skip_eights(table: &[u16], c: usize, i: usize) -> usize
     requires { (i ≤ c) × (c ≤ length table.now) × (c ≤ 4095) }
     ensures { looking.Skipped c table.now i result }
@@ -35,12 +35,11 @@ fn next_nonzero(table: &[u16], c: usize, i: usize) -> usize
     requires { (i ≤ c) × (c ≤ length table.now) × (c ≤ 4095) }
     ensures { looking.Skipped c table.now i result }
 {
-    let mut j = skip_eights(table, c, i);
-    while j < c {
+    // By `position` over the rest it was tried: the sum of the two places did not prove by itself, as this does.
+    for j in skip_eights(table, c, i)..c {
         if table[j] != 0 {
             return j;
         }
-        j += 1;
     }
     c
 }
@@ -56,17 +55,11 @@ fn rate_fits(x: usize, r: usize, i: usize, sizes: &[u16]) -> bool
     if r == 0 {
         return true;
     }
-    if x == 0 {
-        return false;
-    }
     let held = crate::held_for(r);
-    if names::number_of(sizes, x) != held {
-        return false;
-    }
-    i % held == 0
+    x != 0 && names::number_of(sizes, x) == held && i % held == 0
 }
 
-// Whether every r fits, by the weights of the names.
+// Whether every r fits, by the weights of the names. The loop goes from one entry that is not 0 to the next, and so ends at c.
 fn rates_fit(board: &[u16], c: usize, rates: &[u16], sizes: &[u16]) -> bool
     requires { (c ≤ length board.now) × (c ≤ length rates.now) × (c ≤ 4095) × Table sizes.now × (good c board.now ≡ true) × ((x : ℕ) → x < 65536 → number_under sizes.now x ≡ weight c board.now x) }
     ensures { result ≡ sharing.rates_fit c board.now rates.now }
@@ -81,37 +74,26 @@ fn rates_fit(board: &[u16], c: usize, rates: &[u16], sizes: &[u16]) -> bool
     true
 }
 
-// One less, and 0 for 0.
-fn one_less(r: u16) -> u16
-    ensures { result ≡ r - 1 }
-{
-    if r == 0 {
-        return 0;
-    }
-    r - 1
-}
-
 // Whether a deficit is in the range of a stream of weight r: 0, or v below R. A v below R has no more binary digits than r - 1, and that is so just where v
 // without those of r - 1 is at most r - 1. This needs no shift and no branch.
 fn in_range(r: u16, v: u16) -> bool
     ensures { result ≡ (eqb v 0 || ltb v (sharing.held_for r)) }
 {
-    let w = one_less(r);
+    let w = r.saturating_sub(1);
     v - (v & w) <= w
 }
 
-// Whether every deficit of a table fits. Those that do are counted, in a counter of their own width and to the end: the compiler then takes several at once.
+// Whether every deficit of a table fits. Those that do are counted, in a counter of their own width and to the end: the compiler then takes several at once,
+// which over a `zip` of the two tables it does not, and that takes five times as long.
 fn owed_fit(c: usize, rates: &[u16], owed: &[u16]) -> bool
     requires { (c ≤ length rates.now) × (c ≤ length owed.now) × (c ≤ 4095) }
     ensures { result ≡ sharing.owed_fit c rates.now owed.now }
 {
     let mut n: u16 = 0;
-    let mut i: usize = 0;
-    while i < c {
+    for i in 0..c {
         if in_range(rates[i], owed[i]) {
             n += 1;
         }
-        i += 1;
     }
     n as usize == c
 }
@@ -122,14 +104,8 @@ pub fn fits(board: &[u16], c: usize, rates: &[u16], owed: &[u16], owed_other: &[
     ensures { result ≡ sharing.fits c board.now rates.now (owed.now ∷ owed_other.now ∷ []) }
 {
     let mut sizes = names::empty();
-    if !pieces::weights(board, c, &mut sizes) {
-        return false;
-    }
-    if !rates_fit(board, c, rates, &sizes) {
-        return false;
-    }
-    if !owed_fit(c, rates, owed) {
-        return false;
-    }
-    owed_fit(c, rates, owed_other)
+    pieces::weights(board, c, &mut sizes)
+        && rates_fit(board, c, rates, &sizes)
+        && owed_fit(c, rates, owed)
+        && owed_fit(c, rates, owed_other)
 }

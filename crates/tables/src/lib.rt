@@ -1,8 +1,9 @@
 // The lent tables of over-allocated streams: one entry for each leaf, r or how far a deficit is below 0, at the lowest leaf of the stream. Each function here
 // looks at one board and writes one table, or settles the three of two drives; none knows a record, a list or a refusal.
+// The board, C and the tables stay parameters: `turn_at`, `fits` and `settle_tables` are public calls whose clauses speak of each.
 #![tactic(auto)]
 
-ghost use Rattle.std.specs.Prelude.{◌≡◌, ◌≤◌, ◌<◌, length, replicate};
+ghost use Rattle.std.specs.Prelude.{◌≡◌, ◌≤◌, ◌<◌, length};
 ghost use Rattle.pieces.specs.Board.{weight};
 ghost use Rattle.tables.specs.Sharing as sharing;
 ghost use Rattle.tables.specs.Settling as settled;
@@ -20,22 +21,18 @@ pub fn held_for(r: usize) -> usize
     if r == 0 {
         return 0;
     }
-    1usize << sequences::digits(r - 1)
+    r.next_power_of_two()
 }
 
-// The lowest leaf of a name; c where there is none.
+// The lowest leaf of a name; c where there is none, as `sharing.lowest` has it.
 pub fn lowest_leaf(board: &[u16], c: usize, name: u16) -> usize
     requires { (c ≤ length board.now) × (c ≤ 4095) }
     ensures { result ≡ sharing.lowest c board.now name }
 {
-    let mut i: usize = 0;
-    while i < c {
-        if board[i] == name {
-            return i;
-        }
-        i += 1;
-    }
-    c
+    board[..c]
+        .iter()
+        .position(|leaf| *leaf == name)
+        .unwrap_or(c)
 }
 
 // Whether the first c entries of a table are 0. They are counted, several at once, and not looked at one by one.
@@ -51,7 +48,7 @@ pub fn clear_table(table: &mut [u16], c: usize)
     requires { (c ≤ length table.old) × (c ≤ 4095) }
     ensures { table.new ≡ settled.cleared_table c table.old }
 {
-    pieces::fill(table, 0, c, 0);
+    table[..c].fill(0);
 }
 
 // Enters r for a name that the board holds.
@@ -74,11 +71,4 @@ pub fn weight_served(board: &[u16], c: usize, rates: &[u16], name: u16) -> usize
         return pieces::weigh(board, c, name);
     }
     r
-}
-
-// A table of zeros, with an entry for every leaf. The array is made here and nowhere else, so that no other proof computes it.
-fn no_entries() -> [u16; 4096]
-    ensures { result ≡ replicate 4096 0 }
-{
-    [0u16; 4096]
 }

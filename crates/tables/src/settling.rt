@@ -2,7 +2,6 @@
 // changed.
 ghost use Rattle.std.specs.Prelude.{◌≡◌, ◌&&◌, cond, ℕ, ◌+◌, ◌≤◌, ◌<◌, eqb, get_or, length};
 ghost use Rattle.names.specs.Table.{Table, Empty, Entered, rows_taken, number_under};
-ghost use Rattle.tables.specs.Sharing as sharing;
 ghost use Rattle.tables.specs.Settling as settled;
 ghost use Rattle.tables.specs.Looking as looking;
 
@@ -22,14 +21,12 @@ fn mark_leaves(board: &[u16], c: usize, marks: &mut [u16])
     requires { (c ≤ length board.now) × (c ≤ 4095) × Empty marks.old }
     ensures { looking.Marks c board.now marks.new }
 {
-    let mut i: usize = 0;
-    while i < c {
-        mark_leaf(marks, board[i] as usize, i);
-        i += 1;
+    for (i, x) in board[..c].iter().enumerate() {
+        mark_leaf(marks, *x as usize, i);
     }
 }
 
-// The mark of a name, which is met then.
+// The mark of a name, which is met then; 0 where it has none, as `looking.marked_entry` has it.
 fn take_mark(marks: &mut [u16], x: usize) -> u16
     requires { (x < 65536) × Table marks.old }
     ensures { (result ≡ number_under marks.old x) × Entered marks.old marks.new x 0 }
@@ -43,16 +40,15 @@ fn take_mark(marks: &mut [u16], x: usize) -> u16
     m
 }
 
-// For each leaf of a board that is the lowest of a stream, the mark of its name; 0 for every other.
+// For each leaf of a board that is the lowest of a stream, the mark of its name; 0 for every other. By index, here and in `place_entries`: after writes through
+// `iter_mut` of a part of a slice nothing is known of its entries.
 fn take_marks(board: &[u16], c: usize, marks: &mut [u16], from: &mut [u16])
     requires { (c ≤ length board.now) × (c ≤ 4095) × Table marks.old × (c ≤ length from.old) }
     ensures { from.new ≡ settled.written (λ i. looking.origin c marks.old board.now i) c from.old }
 {
     take_mark(marks, 0);
-    let mut i: usize = 0;
-    while i < c {
+    for i in 0..c {
         from[i] = take_mark(marks, board[i] as usize);
-        i += 1;
     }
 }
 
@@ -71,11 +67,7 @@ fn copy_table(table: &[u16], c: usize, to: &mut [u16])
     requires { (c ≤ length table.now) × (c ≤ length to.old) × (c ≤ 4095) }
     ensures { to.new ≡ settled.written (λ i. get_or table.now i 0) c to.old }
 {
-    let mut i: usize = 0;
-    while i < c {
-        to[i] = table[i];
-        i += 1;
-    }
+    to[..c].copy_from_slice(&table[..c]);
 }
 
 // The entry of a table that a mark leads to.
@@ -83,10 +75,7 @@ fn fetch_entry(table: &[u16], o: usize) -> u16
     requires { (o ≤ length table.now) × (o ≤ 4095) }
     ensures { result ≡ looking.marked_entry table.now o }
 {
-    if o == 0 {
-        return 0;
-    }
-    table[o - 1]
+    if o == 0 { 0 } else { table[o - 1] }
 }
 
 // Gives each of the first c entries of a table what its mark leads to in another.
@@ -94,10 +83,8 @@ fn place_entries(table: &mut [u16], c: usize, from: &[u16], old: &[u16])
     requires { (c ≤ length table.old) × (c ≤ length from.now) × (c ≤ length old.now) × (c ≤ 4095) × ((i : ℕ) → i < c → get_or from.now i 0 ≤ c) }
     ensures { table.new ≡ settled.written (λ i. looking.marked_entry old.now (get_or from.now i 0)) c table.old }
 {
-    let mut i: usize = 0;
-    while i < c {
+    for i in 0..c {
         table[i] = fetch_entry(old, from[i] as usize);
-        i += 1;
     }
 }
 
@@ -109,22 +96,9 @@ fn settle(table: &mut [u16], c: usize, from: &[u16])
     if crate::all_zero(table, c) {
         return;
     }
-    let mut old = crate::no_entries();
+    let mut old = names::zeros::<4096>();
     copy_table(table, c, &mut old);
     place_entries(table, c, from, &old);
-}
-
-// Whether three tables have no entry that is not 0.
-fn all_three_zero(c: usize, rates: &[u16], owed: &[u16], owed_other: &[u16]) -> bool
-    requires { (c ≤ length rates.now) × (c ≤ length owed.now) × (c ≤ length owed_other.now) × (c ≤ 4095) }
-    ensures { result ≡ (sharing.all_zero c rates.now && (sharing.all_zero c owed.now && sharing.all_zero c owed_other.now)) }
-{
-    if crate::all_zero(rates, c) {
-        if crate::all_zero(owed, c) {
-            return crate::all_zero(owed_other, c);
-        }
-    }
-    false
 }
 
 // The first c leaves of a board, to be kept while it is changed.
@@ -132,7 +106,7 @@ pub fn remember(board: &[u16], c: usize) -> [u16; 4096]
     requires { (c ≤ length board.now) × (c ≤ 4095) }
     ensures { settled.Alike c board.now result }
 {
-    let mut old = crate::no_entries();
+    let mut old = names::zeros::<4096>();
     copy_table(board, c, &mut old);
     old
 }
@@ -149,10 +123,10 @@ pub fn settle_tables(
     requires { (c ≤ length old.now) × (c ≤ length board.now) × (c ≤ 4095) × (c ≤ length rates.old) × (c ≤ length owed.old) × (c ≤ length owed_other.old) }
     ensures { (rates.new ≡ settled.settled_table c old.now board.now rates.old) × (owed.new ≡ settled.settled_table c old.now board.now owed.old) × (owed_other.new ≡ settled.settled_table c old.now board.now owed_other.old) }
 {
-    if all_three_zero(c, rates, owed, owed_other) {
+    if crate::all_zero(rates, c) && crate::all_zero(owed, c) && crate::all_zero(owed_other, c) {
         return;
     }
-    let mut from = crate::no_entries();
+    let mut from = names::zeros::<4096>();
     find_origins(old, board, c, &mut from);
     settle(rates, c, &from);
     settle(owed, c, &from);

@@ -15,10 +15,7 @@ fn rated_at(board: &[u16], rates: &[u16], l: usize, x: u16) -> bool
     requires { (l < length board.now) × (l < length rates.now) × (l ≤ 4095) }
     ensures { result ≡ (not (eqb (get_or rates.now l 0) 0) && eqb (get_or board.now l 0) x) }
 {
-    if rates[l] == 0 {
-        return false;
-    }
-    board[l] == x
+    rates[l] != 0 && board[l] == x
 }
 
 // The leaf whose entries decide the turn at leaf a. An over-allocated stream lies in one run, which starts at a multiple of its length: there are twelve leaves
@@ -28,13 +25,12 @@ fn turn_leaf(board: &[u16], c: usize, rates: &[u16], a: usize) -> usize
     ensures { looking.Decides c board.now rates.now a result }
 {
     let x = board[a];
-    let mut m: usize = 0;
-    while m < 12 {
+    // No `find`: its closure would have to prove the leaf in range again.
+    for m in 0usize..12 {
         let l = (a >> m) << m;
         if rated_at(board, rates, l, x) {
             return l;
         }
-        m += 1;
     }
     a
 }
@@ -71,14 +67,11 @@ fn write_turns(board: &[u16], c: usize, rates: &[u16], deficits: &mut [u16], out
     requires { (Position c 1) × (c ≤ length output.old) × (c ≤ length deficits.old) × turning.Shared c board.now rates.now }
     ensures { output.new ≡ turning.names_along c board.now rates.now deficits.old (leaves_from c 1 c) ++ drop c output.old }
 {
-    let mut p: usize = 1;
-    let mut i: usize = 0;
-    while i < c {
+    let mut p = 1;
+    for i in 0..c {
         let served = sequences::pick(c, p);
-        let at = served.leaf;
-        output[i] = turn_at(board, c, rates, deficits, at);
+        output[i] = turn_at(board, c, rates, deficits, served.leaf);
         p = served.next;
-        i += 1;
     }
 }
 
@@ -87,7 +80,7 @@ pub fn write_round(board: &[u16], c: usize, rates: &[u16], output: &mut [u16])
     requires { (Position c 1) × (c ≤ length output.old) × turning.Shared c board.now rates.now }
     ensures { output.new ≡ turning.round_serves c board.now rates.now ++ drop c output.old }
 {
-    let mut deficits = crate::no_entries();
+    let mut deficits = names::zeros::<4096>();
     write_turns(board, c, rates, &mut deficits, output);
 }
 
@@ -97,12 +90,10 @@ fn spacing_of(names: &[u16], c: usize, name: u16) -> usize
     ensures { result ≡ spacing_in name (take c names.now) }
 {
     let mut seen = Gaps::none();
-    let mut i: usize = 0;
-    while i < c {
-        if names[i] == name {
+    for (i, x) in names[..c].iter().enumerate() {
+        if *x == name {
             seen = seen.served_at(i);
         }
-        i += 1;
     }
     seen.around(c)
 }
@@ -112,7 +103,7 @@ pub fn spacing(board: &[u16], c: usize, rates: &[u16], name: u16) -> usize
     requires { (Position c 1) × (turning.Shared c board.now rates.now) × (0 < name) × (0 < weight c board.now name) }
     ensures { result ≡ spacing_in name (turning.round_serves c board.now rates.now) }
 {
-    let mut names = crate::no_entries();
+    let mut names = names::zeros::<4096>();
     write_round(board, c, rates, &mut names);
     spacing_of(&names, c, name)
 }

@@ -1,79 +1,109 @@
-// What a call said, printed: the answer's number and its values, zeros where it is refused. Each `tell_` function gives back the record that came with the
-// answer, and each that prints `Err` just where a write failed.
-use crate::{say, say_entry, say_number, say_refusal};
-use calls::{Change, Changed, Check, Checked, Drive, Refusal, Report, Reported, Served, Serving};
-use std::io;
+// What a call said, printed: the answer's number and its values, zeros where it is refused.
+ghost use Rattle.std.specs.Prelude.{◌≡◌, IfOk};
 
-// The number of what the checks of a call found.
-pub fn check_number(answer: Check) -> u64 {
-    match answer {
-        Check::Clear => 0,
-        Check::Refused(why) => why.number() as u64,
-    }
-}
+use calls::{Drive, Refusal, Returned, Slot, Stream, Unchanged};
+use orders::{Accepted, Declined};
+use std::{fmt, io};
+use waiting::{Outcome, Unfetched};
 
-pub fn tell_checked(rt: &impl Print, r: Checked) -> io::Result<Drive> {
-    let answer = r.answer;
-    say_number(rt, check_number(answer))?;
-    Ok(r.drive)
-}
+// The numbers of the answers that are no refusal of the calls, by the table of docs/CALLS.md: an order waits, there is no place for it, no such ticket. The
+// programs print numbers, and the types that answer so carry none.
+const WAITS: u16 = 13;
 
-// A number and a value.
-pub fn say_two(rt: &impl Print, number: u64, value: u64) -> io::Result<()> {
-    say_number(rt, number)?;
-    say_number(rt, value)
-}
+const QUEUE: u16 = 14;
 
-pub fn tell_changed(rt: &impl Print, r: Changed) -> io::Result<Drive> {
-    let answer = r.answer;
-    match answer {
-        Change::Done(idle) => say_two(rt, 0, idle as u64)?,
-        Change::Room(idle) => say_two(rt, Refusal::Room.number() as u64, idle as u64)?,
-        Change::Refused(why) => say_two(rt, why.number() as u64, 0)?,
-    }
-    Ok(r.drive)
-}
+const UNKNOWN: u16 = 15;
 
-// The number and the values of a slot that is served, or of a stream that is reported.
-fn say_done(rt: &impl Print, first: u16, second: u16, third: u16) -> io::Result<()> {
-    say_number(rt, 0)?;
-    say_entry(rt, first)?;
-    say_entry(rt, second)?;
-    say_entry(rt, third)
-}
+/// An answer as it is printed.
+#[derive(Drop)]
+pub struct Told<A>(pub A);
 
-pub fn tell_served(rt: &impl Print, r: Served) -> io::Result<Drive> {
-    let answer = r.answer;
-    match answer {
-        Serving::Slot {
-            name,
-            leaf,
-            passed,
-            round,
-        } => {
-            say_done(rt, name, leaf, passed)?;
-            say_number(rt, round)?;
-        }
-        Serving::Refused(why) => {
-            say_refusal(rt, why)?;
-            say(rt, b" 0 0 0 0")?;
+impl fmt::Display for Told<Result<(), Refusal>> {
+    fn fmt<W: fmt::Write>(&self, f: &mut fmt::Formatter<W>) -> fmt::Result {
+        match self.0 {
+            Ok(()) => write!(f, "0"),
+            Err(why) => write!(f, "{}", why.number()),
         }
     }
-    Ok(r.drive)
 }
 
-pub fn tell_reported(rt: &impl Print, r: Reported) -> io::Result<Drive> {
-    let answer = r.answer;
-    match answer {
-        Report::Stream {
-            weight,
-            pieces,
-            spacing,
-        } => say_done(rt, weight, pieces, spacing)?,
-        Report::Refused(why) => {
-            say_refusal(rt, why)?;
-            say(rt, b" 0 0 0")?;
+impl fmt::Display for Told<Result<u16, Unchanged>> {
+    fn fmt<W: fmt::Write>(&self, f: &mut fmt::Formatter<W>) -> fmt::Result {
+        match self.0 {
+            Ok(idle) => write!(f, "0 {idle}"),
+            Err(Unchanged::Room(idle)) => write!(f, "{} {idle}", Refusal::Room.number()),
+            Err(Unchanged::Refused(why)) => write!(f, "{} 0", why.number()),
         }
     }
-    Ok(r.drive)
+}
+
+impl fmt::Display for Told<Result<Slot, Refusal>> {
+    fn fmt<W: fmt::Write>(&self, f: &mut fmt::Formatter<W>) -> fmt::Result {
+        match self.0 {
+            Ok(slot) => write!(
+                f,
+                "0 {} {} {} {}",
+                slot.name, slot.leaf, slot.passed, slot.round
+            ),
+            Err(why) => write!(f, "{} 0 0 0 0", why.number()),
+        }
+    }
+}
+
+impl fmt::Display for Told<Result<Stream, Refusal>> {
+    fn fmt<W: fmt::Write>(&self, f: &mut fmt::Formatter<W>) -> fmt::Result {
+        match self.0 {
+            Ok(stream) => write!(
+                f,
+                "0 {} {} {}",
+                stream.weight, stream.pieces, stream.spacing
+            ),
+            Err(why) => write!(f, "{} 0 0 0", why.number()),
+        }
+    }
+}
+
+// Of save: how many bytes were written.
+impl fmt::Display for Told<Result<usize, Refusal>> {
+    fn fmt<W: fmt::Write>(&self, f: &mut fmt::Formatter<W>) -> fmt::Result {
+        match self.0 {
+            Ok(bytes) => write!(f, "0 {bytes}"),
+            Err(why) => write!(f, "{} 0", why.number()),
+        }
+    }
+}
+
+// Of a change that may wait: the idle leaves or the ticket.
+impl fmt::Display for Told<Result<Accepted, Declined>> {
+    fn fmt<W: fmt::Write>(&self, f: &mut fmt::Formatter<W>) -> fmt::Result {
+        match self.0 {
+            Ok(Accepted::Done(idle)) => write!(f, "0 {idle}"),
+            Ok(Accepted::Waiting(ticket)) => write!(f, "{WAITS} {ticket}"),
+            Err(Declined::Room(idle)) => write!(f, "{} {idle}", Refusal::Room.number()),
+            Err(Declined::Queue) => write!(f, "{QUEUE} 0"),
+            Err(Declined::Refused(why)) => write!(f, "{} 0", why.number()),
+        }
+    }
+}
+
+// Of fetch: the number and the value that the order was answered.
+impl fmt::Display for Told<Result<Outcome, Unfetched>> {
+    fn fmt<W: fmt::Write>(&self, f: &mut fmt::Formatter<W>) -> fmt::Result {
+        match self.0 {
+            Ok(said) => write!(f, "{} {}", said.number, said.value),
+            Err(Unfetched::Waits(ticket)) => write!(f, "{WAITS} {ticket}"),
+            Err(Unfetched::Unknown) => write!(f, "{UNKNOWN} 0"),
+        }
+    }
+}
+
+/// Prints a colon and what a call answered, and gives back the record that came with the answer.
+pub fn tell<A: Drop>(rt: &impl Print, returned: Returned<A>) -> io::Result<Drive>
+where
+    Told<A>: fmt::Display,
+    ensures { IfOk result (λ drive. drive ≡ returned.drive) }
+{
+    let Returned { drive, answer } = returned;
+    print!(rt; ": {}", Told(answer))?;
+    Ok(drive)
 }

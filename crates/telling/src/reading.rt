@@ -1,79 +1,89 @@
-// The numbers, lines and letters of a text. A number is a run of digits, whatever stands around it; its place is counted from 0 among the text's numbers.
-ghost use Rattle.std.specs.Prelude.{◌≡◌, ◌≤◌, IfOk, length};
+// The text of an input, and its numbers. A number is a run of digits, whatever stands around it, modulo 2^64.
+ghost use Rattle.std.specs.Prelude.{◌≡◌, IfOk, IfSome, ◌%◌, take, length};
+ghost use Rattle.std.specs.Iterator.{at_most};
 
-use crate::{say_after, say_number};
 use calls::Drive;
+use std::alloc::Global;
 use std::io;
 use std::io::Read;
 
-// Room for the text of an input.
-pub fn text_room() -> [u8; 65536]
-    ensures { 65536 ≡ length result }
+/// How many bytes of an input are read.
+pub const MOST: u64 = 65536;
+
+/// The bytes of an input, or its first 65,536. A read that a signal interrupted is made again (std's `read_to_end`). `Err` comes where another read fails or
+/// memory runs out, with std's error; the bytes read before are lost.
+pub fn read_text<R: Read + Drop>(alloc: Global, input: R) -> io::Result<Vec<u8>>
+    ensures { IfOk result (λ text. IfSome (R.remaining input) (λ bytes. text.items ≡ take 65536 bytes)) }
 {
-    [0; 65536]
+    let mut text = Vec::new(alloc);
+    input.take(MOST).read_to_end(&mut text)?;
+    Ok(text)
 }
 
-// Reads standard input until `text` is full or the input ends, and says how many bytes it put at the start of `text`.
-// `Err` comes just where a read fails, with std's error: what was read before stands at the start of `text`, and nothing else of `text` is known.
-pub fn read_text(rt: &impl Input, text: &mut [u8]) -> io::Result<usize>
-    ensures { IfOk result (λ n. n ≤ length text.new) }
-{
-    let mut input = rt.reader();
-    let mut done: usize = 0;
-    while done < text.len() {
-        let n = input.read(&mut text[done..])?;
-        if n == 0 {
-            return Ok(done);
-        }
-        done += n;
+/// The numbers of a text, from the first one on.
+#[derive(Drop)]
+pub struct Numbers<'a>(pub &'a [u8]);
+
+impl Iterator for Numbers<'_> {
+    type Item = u64;
+
+    ghost remaining = { λ numbers. at_most (length numbers.0.now) };
+
+    fn next(&mut self) -> Option<u64> {
+        let start = self.0.iter().position(|b| b.is_ascii_digit())?;
+        let others = &self.0[start + 1..];
+        let n = others
+            .iter()
+            .position(|b| !b.is_ascii_digit())
+            .unwrap_or(others.len());
+        let digits = &self.0[start..start + 1 + n];
+        self.0 = &others[n..];
+        Some(value(digits))
     }
-    Ok(done)
 }
 
-// A number with one more digit at its end.
-fn with_digit(value: u64, b: u8) -> u64 {
-    let tens = std::num::wrapping_add_u64(value << 3, value << 1);
-    std::num::wrapping_add_u64(tens, (b % 16) as u64)
+impl Numbers<'_> {
+    /// The next number as an entry of a board; 0 after the last.
+    pub fn entry(&mut self) -> u16 {
+        entry_of(self.next().unwrap_or(0))
+    }
+
+    /// The next N numbers; zeros after the last.
+    pub fn row<const N: usize>(&mut self) -> [u64; N] {
+        let mut row = [0u64; N];
+        for n in row.iter_mut() {
+            *n = self.next().unwrap_or(0);
+        }
+        row
+    }
 }
 
-// The number at a place; 0 where there is none.
+// The number that a row of digits is, modulo 2^64. `parse` would refuse one that is larger, and a text may have any.
+fn value(digits: &[u8]) -> u64 {
+    digits.iter().fold(
+        0u64,
+        |n, b| n.wrapping_mul(10).wrapping_add(u64::from(*b % 16)),
+    )
+}
+
+/// A number as an entry of a board: modulo 65,536.
+pub fn entry_of(n: u64) -> u16
+    ensures { result ≡ n % 65536 }
+{
+    (n % 65536) as u16
+}
+
+/// The number at a place of a text, counted from 0 among its numbers; 0 where there is none.
 pub fn long_at(text: &[u8], place: usize) -> u64 {
-    let mut left = place;
-    let mut inside = false;
-    let mut value: u64 = 0;
-    let mut i: usize = 0;
-    while i < text.len() {
-        let b = text[i];
-        if b'0' <= b && b <= b'9' {
-            inside = true;
-            value = with_digit(value, b);
-        } else {
-            if inside {
-                if left == 0 {
-                    return value;
-                }
-                left -= 1;
-            }
-            inside = false;
-            value = 0;
-        }
-        i += 1;
-    }
-    if left == 0 { value } else { 0 }
+    Numbers(text).nth(place).unwrap_or(0)
 }
 
+/// The same as an entry of a board.
 pub fn number_at(text: &[u8], place: usize) -> u16 {
-    (long_at(text, place) % 65536) as u16
+    entry_of(long_at(text, place))
 }
 
-// The same as a number of bytes, entries or rows.
-pub fn count_at(text: &[u8], place: usize) -> usize
-    ensures { result ≤ 65535 }
-{
-    number_at(text, place) as usize
-}
-
-// The record that a line gives: C, p and the round's number.
+/// The record that a line gives: C, p and the round's number.
 pub fn record_of(line: &[u8]) -> Drive {
     Drive {
         capacity: number_at(line, 0),
@@ -82,44 +92,17 @@ pub fn record_of(line: &[u8]) -> Drive {
     }
 }
 
-// The letter at an index, or a dash.
-pub fn letter_at(line: &[u8], i: usize) -> u8 {
-    if i < line.len() { line[i] } else { b'-' }
-}
+#[cfg(test)]
+mod tests {
+    use super::*;
+    use std::test::Fail;
 
-// Where the line that starts at an index ends.
-pub fn line_end(text: &[u8], from: usize) -> usize
-    requires { from ≤ length text.now }
-    ensures { (from ≤ result) × (result ≤ length text.now) }
-{
-    let mut i = from;
-    while i < text.len() {
-        if text[i] == b'\n' {
-            return i;
-        }
-        i += 1;
+    #[test]
+    fn reads_a_text(rt: HostRuntime) -> Result<(), Fail> {
+        let text = read_text(rt.alloc(), &b"12, and 70000\n"[..])?;
+        assert_eq!(rt; text.len(), 14);
+        assert_eq!(rt; Numbers(&text).row(), [12, 70000, 0]);
+        assert_eq!(rt; number_at(&text, 1), 4464);
+        Ok(())
     }
-    i
-}
-
-// Each entry becomes the number at its place.
-pub fn read_numbers(text: &[u8], table: &mut [u16]) {
-    let mut i: usize = 0;
-    while i < table.len() {
-        table[i] = number_at(text, i);
-        i += 1;
-    }
-}
-
-// Prints n numbers from a place on, a space between them.
-pub fn say_row(rt: &impl Print, text: &[u8], place: usize, n: usize) -> io::Result<()>
-    requires { (place ≤ 16777216) × (n ≤ 16) }
-{
-    say_after(rt, b"", long_at(text, place))?;
-    let mut i: usize = 1;
-    while i < n {
-        say_number(rt, long_at(text, place + i))?;
-        i += 1;
-    }
-    Ok(())
 }

@@ -7,32 +7,25 @@ use native.Mathlib.Nat.{mul-le-mul_right}
 use native.Mathlib.Decide.{ℕ_discrete}
 use native.Mathlib.Omega.{arith}
 use lib.Count.{ones}
-use lib.Dec.{eqb, ltb}
+use lib.Dec.{ltb}
 use lib.ListN.{length, get_or, set}
 use lib.Pow.{pow_pos}
 use borrow.Author.Tests.{eq-eqb, ne_eqb, ltb-false}
 use Rattle.general.proofs.Laws.{neither}
 use Rattle.calls.specs.Refusals.{applies, asked_open, open_check}
 use Rattle.calls.specs.declared.Refusal.TheVariants.{Capacity, Short}
-use Rattle.calls.specs.declared.Check.TheVariants as check
+use Rattle.std.specs.Prelude.{Ok, Err}
 use Rattle.calls.proofs.Laws.{open_clear}
 use Rattle.tree.specs.Marks.{flipped, below, node_from, marks_from, levels}
 use Rattle.tree.specs.Results.{finding}
-use Rattle.tree.specs.declared.Finding.{Finding}
-use Rattle.tree.specs.declared.Finding.TheVariants.{Clear, Power, Refused}
+use Rattle.tree.specs.Types.{Finding}
+use Rattle.tree.specs.declared.Unwalked.TheVariants as unwalked
 use Rattle.tree.proofs.Nodes.{dbl}
 use Rattle.tree.proofs.Powers.{power, exponent_le}
 
 -- the node below is one of the two
 below_range : (m i : ℕ) → (2 * i + 1 ≤ below m i) × (below m i ≤ 2 * i + 2)
 below_range m i = elim (ℕ_discrete m 0) [
-  | yes e ↦ rw (eq-eqb m 0 e) (omega arith)
-  | no e ↦ rw (ne_eqb m 0 e) (omega arith)
-]
-
--- the side that a mark leads to, as a number: 0 is left, 1 is right
-pub side_turns : (m i : ℕ) → (cond (eqb m 0) 0 1 ≤ 1) × (2 * i + 1 + cond (eqb m 0) 0 1 ≡ below m i) × (1 - cond (eqb m 0) 0 1 ≡ flipped m)
-side_turns m i = elim (ℕ_discrete m 0) [
   | yes e ↦ rw (eq-eqb m 0 e) (omega arith)
   | no e ↦ rw (ne_eqb m 0 e) (omega arith)
 ]
@@ -83,22 +76,22 @@ pub record Walkable (C : ℕ) (B : List ℕ) (m : ℕ) : Type 0 where
   pub few : C ≤ 4095
   pub one : ones C ≤ 1
   pub power : C ≡ 2 ^ levels C
-  pub opens : open_check C B ≡ check.Clear
+  pub opens : open_check C B ≡ Ok tt
   pub long : C ≤ length B
   pub marked : C - 1 ≤ m
 
-passed : (b : Bool) (f g : Finding) → (f ≡ Clear → ⊥) → cond b f g ≡ Clear → (b ≡ false) × (g ≡ Clear)
+passed : (b : Bool) (f g : Finding) → (f ≡ Ok tt → ⊥) → cond b f g ≡ Ok tt → (b ≡ false) × (g ≡ Ok tt)
 passed true f g n e = absurd (n e)
 passed false f g n e = (refl, e)
 
-pub walkable : (C : ℕ) (B : List ℕ) (m : ℕ) → finding C B m ≡ Clear → Walkable C B m
+pub walkable : (C : ℕ) (B : List ℕ) (m : ℕ) → finding C B m ≡ Ok tt → Walkable C B m
 unfolding finding open_check
 walkable C B m e =
-    let p = passed (applies Capacity (asked_open C B)) (Refused Capacity) _ (λ z. let y : ◌≡◌ {A = ℕ} 0 1 = cc in omega arith) e in
-    let q = passed (ltb 1 (ones C)) Power _ (λ z. let y : ◌≡◌ {A = ℕ} 0 1 = cc in omega arith) p.1 in
-    let r = passed (applies Short (asked_open C B) || ltb m (C - 1)) (Refused Short) _ (λ z. let y : ◌≡◌ {A = ℕ} 0 1 = cc in omega arith) q.1 in
+    let p = passed (applies Capacity (asked_open C B)) (Err (unwalked.Refused Capacity)) _ (λ z. cc) e in
+    let q = passed (ltb 1 (ones C)) (Err unwalked.Power) _ (λ z. cc) p.1 in
+    let r = passed (applies Short (asked_open C B) || ltb m (C - 1)) (Err (unwalked.Refused Short)) _ (λ z. cc) q.1 in
     let s = neither (applies Short (asked_open C B)) (ltb m (C - 1)) r.0 in
-    let o : open_check C B ≡ check.Clear = rw (p.0, s.0) refl in
+    let o : open_check C B ≡ (Ok tt) = rw (p.0, s.0) refl in
     let z = open_clear C B o in
     let single = ltb-false 1 (ones C) q.0 in
     record {

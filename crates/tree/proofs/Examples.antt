@@ -6,7 +6,8 @@ use lib.ListN.{replicate}
 use Rattle.calls.specs.declared.Refusal.TheVariants.{Capacity, Short}
 use Rattle.tree.specs.Marks.{leaves_of, marks_after, leaf_of, marks_of}
 use Rattle.tree.specs.Results.{walked, finding}
-use Rattle.tree.specs.declared.Walking.TheVariants.{Leaf, Power, Refused}
+use Rattle.tree.specs.declared.Unwalked.TheVariants as unwalked
+use Rattle.std.specs.Prelude.{Ok, Err}
 
 -- C = 8: a round and the start of the next; the marks of two walks, by level, and the one beyond the seven untouched
 eight : leaves_of 8 (replicate 7 0) 10 ≡ 0 ∷ 4 ∷ 2 ∷ 6 ∷ 1 ∷ 5 ∷ 3 ∷ 7 ∷ 0 ∷ 4 ∷ []
@@ -27,22 +28,22 @@ unfolding marks_of count_trailing_zeros
 seven_after = refl
 
 -- one leaf and no marks; 16 before 2; too few marks, one entry too few; 4,096 has one set digit and is 1
-one : walked 1 (5 ∷ []) [] ≡ Leaf 5 0
+one : walked 1 (5 ∷ []) [] ≡ Ok (record { name = 5; leaf = 0 })
 unfolding leaf_of finding count_trailing_zeros ones
 one = refl
 
-six : walked 6 [] [] ≡ Power
+six : walked 6 [] [] ≡ Err unwalked.Power
 unfolding finding count_trailing_zeros ones
 six = refl
 
-few_marks : walked 4 (1 ∷ 1 ∷ 1 ∷ 1 ∷ []) (0 ∷ 0 ∷ []) ≡ Refused Short
+few_marks : walked 4 (1 ∷ 1 ∷ 1 ∷ 1 ∷ []) (0 ∷ 0 ∷ []) ≡ Err (unwalked.Refused Short)
 unfolding finding count_trailing_zeros ones
 few_marks = refl
 
-few_leaves : walked 4 (1 ∷ 1 ∷ 1 ∷ []) (0 ∷ 0 ∷ 0 ∷ []) ≡ Refused Short
+few_leaves : walked 4 (1 ∷ 1 ∷ 1 ∷ []) (0 ∷ 0 ∷ 0 ∷ []) ≡ Err (unwalked.Refused Short)
 unfolding finding count_trailing_zeros ones
 few_leaves = refl
 
-large : walked 4096 [] [] ≡ Refused Capacity
+large : walked 4096 [] [] ≡ Err (unwalked.Refused Capacity)
 unfolding finding count_trailing_zeros ones
 large = refl

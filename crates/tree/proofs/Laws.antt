@@ -19,7 +19,7 @@ use Rattle.sequences.specs.SlotOrder.{digits, Position, leaf_at, served_from, ne
 use Rattle.sequences.specs.Serving.{leaves_from, after_slots}
 use Rattle.sequences.proofs.Laws.{power_leaf, power_next, first_position, next_position, leaves_at}
 use Rattle.calls.specs.declared.Drive.{Drive}
-use Rattle.calls.specs.declared.Check.TheVariants as check
+use Rattle.std.specs.Prelude.{Ok, Err}
 use Rattle.calls.specs.Answers.{Answer}
 use Rattle.calls.specs.Records.{drive_at}
 use Rattle.calls.specs.Refusals.{zero_or, applies, asked_open, open_check, slot_check, position_check}
@@ -31,9 +31,8 @@ use Rattle.tree.specs.Literal.{leaf_below, marks_below}
 use Rattle.tree.specs.Results.{finding, finds, number_by, if_made, walk_may, walking_answer, walked_answer}
 use Rattle.tree.specs.Promises.{Walks}
 use Rattle.tree.specs.Engines.{marks_left, drive_left, name_and_leaf}
-use Rattle.tree.specs.declared.Walking.{Walking}
-use Rattle.tree.specs.declared.Finding.{Finding}
-use Rattle.tree.specs.declared.Finding.TheVariants.{Clear, Power, Refused}
+use Rattle.tree.specs.Types.{Walking, Finding}
+use Rattle.tree.specs.declared.Unwalked.TheVariants as unwalked
 use Rattle.tree.proofs.Nodes.{inner, below_root}
 use Rattle.tree.proofs.Standing.{Stands, stepped, marks_length, marks_keep, clear_stands, stands_clear}
 use Rattle.tree.proofs.Powers as powers
@@ -146,9 +145,9 @@ module _ (C : ℕ) (some : zero < C) (few : C ≤ 4095) (single : ones C ≤ 1) 
 
 -- a walk that is not made leaves what there was
 unmade : (f : Finding) → (number_by f ≡ 0 → ⊥) → {A : Type 0} (made was : A) → if_made f made was ≡ was
-unmade Clear h made was = absurd (h refl)
-unmade Power h made was = refl
-unmade (Refused r) h made was = refl
+unmade (Ok tt) h made was = absurd (h refl)
+unmade (Err unwalked.Power) h made was = refl
+unmade (Err (unwalked.Refused r)) h made was = refl
 
 module _ (C : ℕ) (B M : List ℕ) where
   -- No second answer fits, and no other marks.
@@ -183,7 +182,7 @@ leaf_at_lem C zero (suc n) M h = refl
 leaf_at_lem C (suc i) (suc n) M h = leaf_at_lem C i n (marks_of C M) (omega arith)
 
 -- slot takes a record at any position, where open takes its capacity and the board
-slot_takes : (d : Drive) (B : List ℕ) → open_check d.capacity B ≡ check.Clear → Position d.capacity d.position → slot_check d B ≡ check.Clear
+slot_takes : (d : Drive) (B : List ℕ) → open_check d.capacity B ≡ Ok tt → Position d.capacity d.position → slot_check d B ≡ Ok tt
 unfolding position_check
 slot_takes d B o at =
     let f = at.first in
@@ -194,20 +193,20 @@ slot_takes d B o at =
 record Moved (C : ℕ) (B : List ℕ) (p n : ℕ) (d : Drive) : Type 0 where
   capacity : d.capacity ≡ C
   position : d.position ≡ after_slots C p n
-  takes : slot_check d B ≡ check.Clear
+  takes : slot_check d B ≡ Ok tt
 
-moved : (n : ℕ) (d : Drive) (B : List ℕ) → open_check d.capacity B ≡ check.Clear → Position d.capacity d.position
+moved : (n : ℕ) (d : Drive) (B : List ℕ) → open_check d.capacity B ≡ Ok tt → Position d.capacity d.position
     → Moved d.capacity B d.position n (drive_left d B n)
 unfolding drive_left after_slots
 moved zero d B o at = record { capacity = refl; position = refl; takes = slot_takes d B o at }
 moved (suc n) d B o at = rw (slot_takes d B o at) (let r = moved n (moved_on d) B o (next_position d.capacity d.position at) in record { capacity = r.capacity; position = r.position; takes = r.takes })
 
-module _ (C : ℕ) (B M : List ℕ) (made : finds C B M ≡ Clear) where
+module _ (C : ℕ) (B M : List ℕ) (made : finds C B M ≡ Ok tt) where
   is : Walkable C B (length M)
   is = walkable C B (length M) made
 
   -- the marks that the calls leave are those of the walks
-  left_marks : (n : ℕ) (N : List ℕ) → finds C B N ≡ Clear → marks_left C B N n ≡ marks_after C N n
+  left_marks : (n : ℕ) (N : List ℕ) → finds C B N ≡ Ok tt → marks_left C B N n ≡ marks_after C N n
   unfolding marks_left marks_after
   left_marks zero N e = refl
   left_marks (suc n) N e =
@@ -223,7 +222,7 @@ module _ (C : ℕ) (B M : List ℕ) (made : finds C B M ≡ Clear) where
     walks_serve n =
         let w = is in
         let m = moved n (drive_at C 1) B w.opens (first_position C w.some (let f = w.few in omega arith)) in
-        let f : finds C B (marks_after C M n) ≡ Clear = rw (after_long C w.some w.few w.one n M) made in
+        let f : finds C B (marks_after C M n) ≡ (Ok tt) = rw (after_long C w.some w.few w.one n M) made in
         let leaf : leaf_of C (marks_after C M n) ≡ leaf_at C (served_from C (after_slots C 1 n)) =
         sym (leaf_at_lem C n (suc n) M (omega arith))
         ∙ ap (λ (l : List ℕ). get_or l n 0) (walks_slots C w.some w.few w.one M room clear (suc n)) ∙ leaves_at C 1 (suc n) n (omega arith) in

@@ -1,7 +1,7 @@
 -- What a walk promises, for every input and any marks: the result, the same in number and values, and what the marks hold at exit (E).
 -- Assumes nothing.
 use Rattle.std.specs.Prelude.{◌≡◌, List, ℕ}
-use Rattle.tree.specs.declared.Walking.{Walking}
+use Rattle.tree.specs.Types.{Walking}
 use Rattle.tree.specs.Results.{walking_answer, walked, walked_answer, walked_marks}
 
 abbrev pub Walks : ℕ → List ℕ → List ℕ → Walking → List ℕ → Type 0

@@ -8,8 +8,9 @@ use lib.Seq.{get_or-set_other}
 use Rattle.general.proofs.Laws.{by_bool}
 use Rattle.waiting.specs.declared.Order.{Order}
 use Rattle.waiting.specs.declared.Outcome.{Outcome}
-use Rattle.waiting.specs.declared.Known.{Known}
-use Rattle.waiting.specs.declared.Known.TheVariants as place
+use Rattle.waiting.specs.Types.{Known}
+use Rattle.waiting.specs.declared.Held.TheVariants as held
+use Rattle.std.specs.Prelude.{Some, None}
 use Rattle.waiting.specs.Layout.{last_ticket, answers_in, orders_in, places_in, too_short, full, put_at, joined, taken_list, answered_at, answered_from, settled, found, lowered, without_place, fetched_by, fetched_list, emptied}
 use Rattle.waiting.proofs.Listing.{places_most, found_below}
 use Rattle.waiting.proofs.Meant.{room, counted_length, counted_other, put_length, put_other, answers_length, answered_other, lowered_length}
@@ -48,9 +49,9 @@ module _ (L : List ℕ) where
   fetch_length t = by_bool (too_short (length L)) (λ s. rw s refl) (λ s. rw s (go (found L t)))
     where
       go : (k : Known) → length (fetched_by L k) ≡ length L
-      go place.Nowhere = refl
-      go place.Order = refl
-      go (place.Answer i) = without_length i
+      go None = refl
+      go (Some held.Order) = refl
+      go (Some (held.Answer i)) = without_length i
 
   pub empty_length : length (emptied L) ≡ length L
   unfolding emptied
@@ -85,9 +86,9 @@ module _ (L : List ℕ) where
     fetch_beyond t = by_bool (too_short (length L)) (λ s. rw s refl) (λ s. rw s (go (found L t) refl))
       where
         go : (k : Known) → found L t ≡ k → get_or (fetched_by L k) q 0 ≡ get_or L q 0
-        go place.Nowhere e = refl
-        go place.Order e = refl
-        go (place.Answer i) e = without_beyond i (found_below L t i e).1
+        go None e = refl
+        go (Some held.Order) e = refl
+        go (Some (held.Answer i)) e = without_beyond i (found_below L t i e).1
 
     pub empty_beyond : get_or (emptied L) q 0 ≡ get_or L q 0
     unfolding emptied

@@ -1,28 +1,29 @@
 -- The laws of the list that upper crates cite: what the calls do to its meaning, that they keep its length and the numbers beyond, how the tickets count, what
 -- waits and what becomes of an order; and what running a list takes, place by place. Assumes nothing.
+use Rattle.std.proofs.lemmas.Grind.{common_steps}
 use mathlib.Core.Path.{◌≡◌, refl, sym, ap, subst, ◌∙◌}
 use mathlib.Core.Bool.{false, cond}
 use mathlib.Core.Logic.{◌⊎◌, inl, inr}
 use mathlib.Core.List.{List, [], ◌∷◌, ◌++◌, map}
-use Prim.Native.Nat.{ℕ, zero, suc, ◌+◌, ◌%◌, ◌≤◌}
+use Prim.Native.Nat.{ℕ, zero, suc, ◌+◌, ◌≤◌}
 use native.Mathlib.Omega.{arith}
 use lib.Dec.{eqb}
 use lib.ListN.{length}
+use Rattle.std.proofs.lemmas.List.{map-append}
 use Rattle.general.proofs.Laws.{by_bool}
 use Rattle.waiting.specs.declared.Order.{Order}
 use Rattle.waiting.specs.declared.Outcome.{Outcome}
-use Rattle.waiting.specs.declared.Taking.{Taking}
-use Rattle.waiting.specs.declared.Known.{Known}
-use Rattle.waiting.specs.declared.Known.TheVariants as place
-use Rattle.waiting.specs.declared.Fetching.{Fetching}
-use Rattle.waiting.specs.declared.Fetching.TheVariants as fetching
+use Rattle.waiting.specs.Types.{Taking, Known, Fetching}
+use Rattle.waiting.specs.declared.Held.TheVariants as held
+use Rattle.std.specs.Prelude.{Err, Some, None}
+use Rattle.waiting.specs.declared.Unfetched.TheVariants as unfetched
 use Rattle.waiting.specs.Layout.{too_short, last_ticket, answers_in, orders_in, places_in, order_at, outcome_at, orders_from, waiting, full, taken_list, settled, found, answer_of, fetched, fetched_list, emptied}
 use Rattle.waiting.specs.Carrying.{carried_all, outcomes}
 use Rattle.waiting.specs.Meaning.{Under, Meaning, places, meaning, with_answers, kept_order, Fits, Rising, Orderly, InOrder}
 use Rattle.waiting.specs.Fates.{Fate, Waits, Gone, fetched_of, ran, handed_out}
 use Rattle.waiting.specs.Promises.{Takes, Fetches}
 use Rattle.waiting.proofs.RisingTickets as standing
-use Rattle.waiting.proofs.RisingTickets.{StandsIn, map_append, outcomes_length}
+use Rattle.waiting.proofs.RisingTickets.{StandsIn, outcomes_length}
 -- ---- the meaning: each call does to it what specs/Meaning says
 
 pub use Rattle.waiting.proofs.Meant.{least_small, take_means, run_means, fetch_means, fetch_tells, empty_means}
@@ -45,17 +46,17 @@ fetch_unique L t p q = (p.0 ∙ sym q.0, p.1 ∙ sym q.1)
 
 pub fetch_cases : (L : List ℕ) (t : ℕ)
     → ((r : Outcome) × (fetched L t ≡ answer_of r))
-    ⊎ (((fetched L t ≡ fetching.Waits t) ⊎ (fetched L t ≡ fetching.Unknown)) × (fetched_list L t ≡ L))
+    ⊎ (((fetched L t ≡ Err (unfetched.Waits t)) ⊎ (fetched L t ≡ Err unfetched.Unknown)) × (fetched_list L t ≡ L))
 fetch_cases L t = by_bool (too_short (length L))
     (λ s. inr (inr (rw s refl), rw s refl))
     (λ s. go (found L t) s refl)
   where
     go : (k : Known) → too_short (length L) ≡ false → found L t ≡ k
         → ((r : Outcome) × (fetched L t ≡ answer_of r))
-        ⊎ (((fetched L t ≡ fetching.Waits t) ⊎ (fetched L t ≡ fetching.Unknown)) × (fetched_list L t ≡ L))
-    go place.Nowhere s e = inr (inr (rw (s, e) refl), rw (s, e) refl)
-    go place.Order s e = inr (inl (rw (s, e) refl), rw (s, e) refl)
-    go (place.Answer i) s e = inl (outcome_at L i, rw (s, e) refl)
+        ⊎ (((fetched L t ≡ Err (unfetched.Waits t)) ⊎ (fetched L t ≡ Err unfetched.Unknown)) × (fetched_list L t ≡ L))
+    go None s e = inr (inr (rw (s, e) refl), rw (s, e) refl)
+    go (Some held.Order) s e = inr (inl (rw (s, e) refl), rw (s, e) refl)
+    go (Some (held.Answer i)) s e = inl (outcome_at L i, rw (s, e) refl)
 
 -- ---- what waits
 
@@ -81,17 +82,13 @@ unfolding waiting
 waiting_count L = orders_count L (answers_in L) (orders_in L)
 
 pub kept_fits : (o : Order) → Fits o → kept_order o ≡ o
-kept_fits o fits =
-    let x : o.kind % 65536 ≡ o.kind = let f = fits.kind in omega arith in
-    let y : o.name % 65536 ≡ o.name = let f = fits.name in omega arith in
-    let z : o.weight % 65536 ≡ o.weight = let f = fits.weight in omega arith in
-    rw (x, y, z) refl
+kept_fits o fits = grind (arith, common_steps)
 
 -- An order that is taken waits behind all that wait, as it was given.
 pub joins_end : (L : List ℕ) (o : Order) → 259 ≤ length L → full L ≡ false → Fits o → waiting (taken_list L o) ≡ waiting L ++ (o ∷ [])
 joins_end L o l f fits = waiting_means (taken_list L o)
     ∙ ap (λ (M : Meaning). items M.orders) (take_means L o l f)
-    ∙ map_append (λ u. u.item) (meaning L).orders (record { ticket = (meaning L).last + 1; item = kept_order o } ∷ [])
+    ∙ map-append (λ u. u.item) (meaning L).orders (record { ticket = (meaning L).last + 1; item = kept_order o } ∷ [])
     ∙ rw (kept_fits o fits, sym (waiting_means L)) refl
 
 -- What a run answers: one answer for each order that waits.
@@ -147,10 +144,7 @@ empty_in_order L l = record {
 -- An empty list, all of whose places are free.
 pub free_in_order : (L : List ℕ) → 259 ≤ length L → places_in L ≡ 0 → InOrder L
 unfolding meaning places Rising
-free_in_order L l e =
-    let a : answers_in L ≡ 0 = omega arith in
-    let w : orders_in L ≡ 0 = omega arith in
-    record { long = l; orderly = rw (a, w) (omega arith) }
+free_in_order L l e = grind (arith, common_steps)
 
 module _ (L : List ℕ) (is : InOrder L) where
   pub take_in_order : (o : Order) → InOrder (taken_list L o)

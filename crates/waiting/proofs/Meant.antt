@@ -1,6 +1,6 @@
 -- What taking, running, fetching and emptying make of a list is what they make of its meaning. Assumes nothing.
 use mathlib.Core.Path.{◌≡◌, refl, sym, ap, subst, ◌∙◌}
-use mathlib.Core.Bool.{false, cond, not}
+use mathlib.Core.Bool.{false, cond}
 use mathlib.Core.List.{List, [], ◌∷◌, ◌++◌}
 use Prim.Native.Nat.{ℕ, zero, suc, ◌+◌, ◌-◌, ◌*◌, ◌≤◌, ◌<◌}
 use native.Mathlib.Omega.{arith}
@@ -8,12 +8,14 @@ use native.Mathlib.Decide.{dec_lt, ℕ_discrete}
 use lib.Dec.{eqb, ltb}
 use lib.ListN.{length, get_or, set, length-set}
 use lib.Seq.{get_or-set_same, get_or-set_other}
-use borrow.Author.Tests.{lt-ltb, le-ltb, ltb-true, not-false}
-use Rattle.general.proofs.Laws.{neither, by_bool}
+use Rattle.std.proofs.lemmas.Grind.{common_steps}
+use borrow.Author.Tests.{lt-ltb, le-ltb}
+use Rattle.general.proofs.Laws.{by_bool}
 use Rattle.waiting.specs.declared.Order.{Order}
 use Rattle.waiting.specs.declared.Outcome.{Outcome}
-use Rattle.waiting.specs.declared.Fetching.{Fetching}
-use Rattle.waiting.specs.declared.Fetching.TheVariants as fetching
+use Rattle.waiting.specs.Types.{Fetching}
+use Rattle.waiting.specs.declared.Unfetched.TheVariants as unfetched
+use Rattle.std.specs.Prelude.{Err}
 use Rattle.waiting.specs.Layout.{least, last_ticket, answers_in, orders_in, places_in, ticket_at, order_at, outcome_at, counted, full, put_at, joined, taken_list, answered_at, answered_from, settled, found_from, place_of, found, lowered, without_place, answer_of, fetched, fetched_list, emptied}
 use Rattle.waiting.specs.Meaning.{Under, places, meaning, with_order, each, with_answers, dropped, without_answer, with_nothing, order_under, answer_under, told, kept_order}
 use Rattle.waiting.proofs.Listing.{places_most}
@@ -65,31 +67,16 @@ unfolding outcome_at
 alike_outcome a = (a.zeroth, rw (a.first, a.second) refl)
 
 same_numbers : (F L : List ℕ) (i : ℕ) → ((q : ℕ) → 3 + 4 * i ≤ q → q < 7 + 4 * i → get_or F q 0 ≡ get_or L q 0) → Alike F i L i
-same_numbers F L i same = record {
-  zeroth = same (3 + 4 * i) (omega arith) (omega arith);
-  first = same (4 + 4 * i) (omega arith) (omega arith);
-  second = same (5 + 4 * i) (omega arith) (omega arith);
-  third = same (6 + 4 * i) (omega arith) (omega arith);
-}
+same_numbers F L i same = grind (arith, common_steps)
 
 next_numbers : (F L : List ℕ) (i : ℕ) → ((q : ℕ) → 3 + 4 * i ≤ q → q < 7 + 4 * i → get_or F q 0 ≡ get_or L (q + 4) 0) → Alike F i L (suc i)
-next_numbers F L i same =
-    let at : (n : ℕ) → n + 4 * i + 4 ≡ n + 4 * suc i = λ n. omega arith in
-    record {
-      zeroth = same (3 + 4 * i) (omega arith) (omega arith) ∙ ap (λ (q : ℕ). get_or L q 0) (at 3);
-      first = same (4 + 4 * i) (omega arith) (omega arith) ∙ ap (λ (q : ℕ). get_or L q 0) (at 4);
-      second = same (5 + 4 * i) (omega arith) (omega arith) ∙ ap (λ (q : ℕ). get_or L q 0) (at 5);
-      third = same (6 + 4 * i) (omega arith) (omega arith) ∙ ap (λ (q : ℕ). get_or L q 0) (at 6);
-    }
+next_numbers F L i same = grind (arith, common_steps)
 
 -- ---- a list with other counts
 
 pub least_small : (m n : ℕ) → m ≤ n → least m n ≡ m
 unfolding least
-least_small m n l = elim (dec_lt m n) [
-  | yes h ↦ rw (lt-ltb m n h) refl
-  | no h ↦ let e : n ≡ m = omega arith in rw (le-ltb m n (omega arith)) e
-]
+least_small m n l = grind (arith, common_steps)
 
 module _ (L : List ℕ) (a w : ℕ) where
   pub counted_length : length (counted L a w) ≡ length L
@@ -98,7 +85,7 @@ module _ (L : List ℕ) (a w : ℕ) where
 
   pub counted_other : (q : ℕ) → (q ≡ 1 → ⊥) → (q ≡ 2 → ⊥) → get_or (counted L a w) q 0 ≡ get_or L q 0
   unfolding counted
-  counted_other q n m = get_or-set_other (set L 1 a) 2 q w 0 m ∙ get_or-set_other L 1 q a 0 n
+  counted_other q n m = grind (arith, common_steps)
 
   module _ (long : 259 ≤ length L) (few : a + w ≤ 64) where
     pub counted_answers : answers_in (counted L a w) ≡ a
@@ -128,11 +115,7 @@ module _ (L : List ℕ) (a w : ℕ) where
 
 pub room : (L : List ℕ) → full L ≡ false → (places_in L < 64) × (last_ticket L < 18446744073709551615)
 unfolding full
-room L e =
-    let f = neither (not (ltb (places_in L) 64)) (not (ltb (last_ticket L) 18446744073709551615)) e in (
-      ltb-true (places_in L) 64 (not-false (ltb (places_in L) 64) f.0),
-      ltb-true (last_ticket L) 18446744073709551615 (not-false (ltb (last_ticket L) 18446744073709551615) f.1),
-    )
+room L e = grind (arith, common_steps)
 
 module _ (L : List ℕ) (i t : ℕ) (o : Order) where
   pub put_length : length (put_at L i t o) ≡ length L
@@ -141,33 +124,16 @@ module _ (L : List ℕ) (i t : ℕ) (o : Order) where
 
   pub put_other : (q : ℕ) → (q ≡ 3 + 4 * i → ⊥) → (q ≡ 4 + 4 * i → ⊥) → (q ≡ 5 + 4 * i → ⊥) → (q ≡ 6 + 4 * i → ⊥) → get_or (put_at L i t o) q 0 ≡ get_or L q 0
   unfolding put_at
-  put_other q a b c d =
-      get_or-set_other (set (set (set L (3 + 4 * i) t) (4 + 4 * i) o.kind) (5 + 4 * i) o.name) (6 + 4 * i) q o.weight 0 d
-      ∙ get_or-set_other (set (set L (3 + 4 * i) t) (4 + 4 * i) o.kind) (5 + 4 * i) q o.name 0 c
-      ∙ get_or-set_other (set L (3 + 4 * i) t) (4 + 4 * i) q o.kind 0 b
-      ∙ get_or-set_other L (3 + 4 * i) q t 0 a
+  put_other q a b c d = grind (arith, common_steps)
 
   module _ (long : 7 + 4 * i ≤ length L) where
     put_ticket : ticket_at (put_at L i t o) i ≡ t
     unfolding put_at
-    put_ticket =
-        get_or-set_other (set (set (set L (3 + 4 * i) t) (4 + 4 * i) o.kind) (5 + 4 * i) o.name) (6 + 4 * i) (3 + 4 * i) o.weight 0 (λ e. omega arith)
-        ∙ get_or-set_other (set (set L (3 + 4 * i) t) (4 + 4 * i) o.kind) (5 + 4 * i) (3 + 4 * i) o.name 0 (λ e. omega arith)
-        ∙ get_or-set_other (set L (3 + 4 * i) t) (4 + 4 * i) (3 + 4 * i) o.kind 0 (λ e. omega arith)
-        ∙ get_or-set_same L (3 + 4 * i) t 0 (omega arith)
+    put_ticket = grind (arith, common_steps)
 
     put_order : order_at (put_at L i t o) i ≡ kept_order o
     unfolding put_at order_at
-    put_order =
-        let kind =
-        get_or-set_other (set (set (set L (3 + 4 * i) t) (4 + 4 * i) o.kind) (5 + 4 * i) o.name) (6 + 4 * i) (4 + 4 * i) o.weight 0 (λ e. omega arith)
-        ∙ get_or-set_other (set (set L (3 + 4 * i) t) (4 + 4 * i) o.kind) (5 + 4 * i) (4 + 4 * i) o.name 0 (λ e. omega arith)
-        ∙ get_or-set_same (set L (3 + 4 * i) t) (4 + 4 * i) o.kind 0 (simp length-set (omega arith)) in
-        let name =
-        get_or-set_other (set (set (set L (3 + 4 * i) t) (4 + 4 * i) o.kind) (5 + 4 * i) o.name) (6 + 4 * i) (5 + 4 * i) o.weight 0 (λ e. omega arith)
-        ∙ get_or-set_same (set (set L (3 + 4 * i) t) (4 + 4 * i) o.kind) (5 + 4 * i) o.name 0 (simp length-set (omega arith)) in
-        let weight = get_or-set_same (set (set (set L (3 + 4 * i) t) (4 + 4 * i) o.kind) (5 + 4 * i) o.name) (6 + 4 * i) o.weight 0 (simp length-set (omega arith)) in
-        rw (kind, name, weight) refl
+    put_order = grind (arith, common_steps)
 
 module _ (L : List ℕ) (o : Order) (long : 259 ≤ length L) (free : full L ≡ false) where
   -- the numbers before they are counted anew
@@ -180,7 +146,7 @@ module _ (L : List ℕ) (o : Order) (long : 259 ≤ length L) (free : full L ≡
 
   put_numbers : (q : ℕ) → (q ≡ 0 → ⊥) → get_or put q 0 ≡ get_or (put_at L (places_in L) (last_ticket L + 1) o) q 0
   unfolding put
-  put_numbers q n = get_or-set_other (put_at L (places_in L) (last_ticket L + 1) o) 0 q (last_ticket L + 1) 0 n
+  put_numbers q n = grind (arith, common_steps)
 
   pub put_first : get_or put 0 0 ≡ last_ticket L + 1
   unfolding put
@@ -227,17 +193,11 @@ module _ (L : List ℕ) (i : ℕ) (r : Outcome) where
 
   pub answered_other : (q : ℕ) → (q ≡ 4 + 4 * i → ⊥) → (q ≡ 5 + 4 * i → ⊥) → get_or (answered_at L i r) q 0 ≡ get_or L q 0
   unfolding answered_at
-  answered_other q a b =
-      get_or-set_other (set L (4 + 4 * i) r.number) (5 + 4 * i) q r.value 0 b ∙ get_or-set_other L (4 + 4 * i) q r.number 0 a
+  answered_other q a b = grind (arith, common_steps)
 
   answered_here : 7 + 4 * i ≤ length L → outcome_at (answered_at L i r) i ≡ r
   unfolding outcome_at answered_at
-  answered_here long =
-      let number =
-      get_or-set_other (set L (4 + 4 * i) r.number) (5 + 4 * i) (4 + 4 * i) r.value 0 (λ e. omega arith)
-      ∙ get_or-set_same L (4 + 4 * i) r.number 0 (omega arith) in
-      let value = get_or-set_same (set L (4 + 4 * i) r.number) (5 + 4 * i) r.value 0 (simp length-set (omega arith)) in
-      rw (number, value) refl
+  answered_here long = grind (arith, common_steps)
 
 pub answers_length : (L : List ℕ) (i : ℕ) (rs : List Outcome) → length (answered_from L i rs) ≡ length L
 unfolding answered_from
@@ -373,14 +333,14 @@ module _ (L : List ℕ) (t : ℕ) where
       (λ y. let f = rw y at h in absurd (omega arith))
       (λ n. let f = rw n at h in rw n (answer_missed (suc i) m other (omega arith)))
 
-  order_hit : (i m : ℕ) → found_from L t i m < i + m → order_under t (places (order_at L) L i m) ≡ fetching.Waits t
+  order_hit : (i m : ℕ) → found_from L t i m < i + m → order_under t (places (order_at L) L i m) ≡ Err (unfetched.Waits t)
   unfolding order_under places found_from
   order_hit i zero h = absurd (omega arith)
   order_hit i (suc m) h = by_bool (eqb (ticket_at L i) t)
       (λ y. rw y refl)
       (λ n. let f = rw n at h in rw n (order_hit (suc i) m (omega arith)))
 
-  order_missed : (i m : ℕ) → i + m ≤ found_from L t i m → order_under t (places (order_at L) L i m) ≡ fetching.Unknown
+  order_missed : (i m : ℕ) → i + m ≤ found_from L t i m → order_under t (places (order_at L) L i m) ≡ Err unfetched.Unknown
   unfolding order_under places found_from
   order_missed i zero h = refl
   order_missed i (suc m) h = by_bool (eqb (ticket_at L i) t)

@@ -7,11 +7,13 @@ use native.Mathlib.Omega.{arith}
 use lib.Dec.{eqb}
 use lib.ListN.{length}
 use borrow.Author.Tests.{ne_eqb, eq-eqb, eqb-true, eqb-false}
+use Rattle.std.proofs.lemmas.List.{map-append, length-map}
 use Rattle.general.proofs.Laws.{by_bool}
 use Rattle.waiting.specs.declared.Order.{Order}
 use Rattle.waiting.specs.declared.Outcome.{Outcome}
-use Rattle.waiting.specs.declared.Fetching.{Fetching}
-use Rattle.waiting.specs.declared.Fetching.TheVariants as fetching
+use Rattle.waiting.specs.Types.{Fetching}
+use Rattle.waiting.specs.declared.Unfetched.TheVariants as unfetched
+use Rattle.std.specs.Prelude.{Err}
 use Rattle.waiting.specs.Layout.{answer_of}
 use Rattle.waiting.specs.Carrying.{carried_all, outcomes}
 use Rattle.waiting.specs.Meaning.{Under, Meaning, with_order, each, with_answers, dropped, without_answer, with_nothing, order_under, answer_under, told, Rising, tickets, Orderly}
@@ -19,12 +21,8 @@ use Rattle.waiting.specs.Fates.{Fate, Waits, Answered, Gone, fetched_of, ran, ha
 
 -- ---- lists
 
-pub map_append : {A B : Type 0} (f : A → B) (xs ys : List A) → map f (xs ++ ys) ≡ map f xs ++ map f ys
-map_append f [] ys = refl
-map_append {A} {B} f (x ∷ xs) ys = ap (λ (l : List B). f x ∷ l) (map_append f xs ys)
-
 pub tickets_append : {A : Type 0} (xs ys : List (Under A)) → tickets (xs ++ ys) ≡ tickets xs ++ tickets ys
-tickets_append xs ys = map_append (λ u. u.ticket) xs ys
+tickets_append xs ys = map-append (λ u. u.ticket) xs ys
 
 -- ---- tickets that rise
 
@@ -172,12 +170,12 @@ unfolding answer_under Absent
 answer_absent t [] other a = refl
 answer_absent t (r ∷ rs) other a = rw (ne_eqb r.ticket t a.0) (answer_absent t rs other a.1)
 
-order_absent : (t : ℕ) (os : List (Under Order)) → Absent t (tickets os) → order_under t os ≡ fetching.Unknown
+order_absent : (t : ℕ) (os : List (Under Order)) → Absent t (tickets os) → order_under t os ≡ Err unfetched.Unknown
 unfolding order_under Absent
 order_absent t [] a = refl
 order_absent t (o ∷ os) a = rw (ne_eqb o.ticket t a.0) (order_absent t os a.1)
 
-order_there : (t : ℕ) (o : Order) (xs ys : List (Under Order)) → order_under t (xs ++ (record { ticket = t; item = o } ∷ ys)) ≡ fetching.Waits t
+order_there : (t : ℕ) (o : Order) (xs ys : List (Under Order)) → order_under t (xs ++ (record { ticket = t; item = o } ∷ ys)) ≡ Err (unfetched.Waits t)
 unfolding order_under
 order_there t o [] ys = rw (eq-eqb t t refl) refl
 order_there t o (x ∷ xs) ys = by_bool (eqb x.ticket t) (λ y. rw y refl) (λ y. rw y (order_there t o xs ys))
@@ -251,17 +249,13 @@ each_append (y ∷ xs) x ys [] r ss e = absurd (omega arith)
 each_append (y ∷ xs) x ys (q ∷ rs) r ss e =
     ap (λ (us : List (Under Outcome)). record { ticket = y.ticket; item = q } ∷ us) (each_append xs x ys rs r ss (omega arith))
 
-length_map : {A B : Type 0} (f : A → B) (xs : List A) → length (map f xs) ≡ length xs
-length_map f [] = refl
-length_map f (x ∷ xs) = ap suc (length_map f xs)
-
 module _ {S : Type 0} (does : Order → S → S) (says : Order → S → Outcome) (s : S) where
   -- the answers that a run gives
   abbrev pub ran_answers : Meaning → List Outcome
   ran_answers M = outcomes does says s (map (λ u. u.item) M.orders)
 
   pub ran_length : (M : Meaning) → length (ran_answers M) ≡ length M.orders
-  ran_length M = outcomes_length does says s (map (λ u. u.item) M.orders) ∙ length_map (λ u. u.item) M.orders
+  ran_length M = outcomes_length does says s (map (λ u. u.item) M.orders) ∙ length-map M.orders (λ u. u.item)
 
   pub run_stands : (t : ℕ) (o : Order) (ahead : List Order) (φ : Fate) (M : Meaning) → StandsIn t o ahead φ M
       → StandsIn t o ahead (ran (says o (carried_all does s ahead)) φ) (with_answers M (ran_answers M))
@@ -272,12 +266,12 @@ module _ {S : Type 0} (does : Order → S → S) (says : Order → S → Outcome
       let early : List Outcome = outcomes does says s ahead in
       let items : map (λ u. u.item) M.orders ≡ ahead ++ (o ∷ map (λ u. u.item) w.behind) =
       ap (λ (os : List (Under Order)). map (λ u. u.item) os) w.split
-      ∙ map_append (λ u. u.item) w.before (x ∷ w.behind)
+      ∙ map-append (λ u. u.item) w.before (x ∷ w.behind)
       ∙ ap (λ (os : List Order). os ++ (o ∷ map (λ u. u.item) w.behind)) w.order in
       let rs : ran_answers M ≡ early ++ (says o (carried_all does s ahead) ∷ later) =
       ap (outcomes does says s) items ∙ outcomes_append does says s ahead (o ∷ map (λ u. u.item) w.behind) in
       let many : length early ≡ length w.before =
-      outcomes_length does says s ahead ∙ ap length (sym w.order) ∙ length_map (λ u. u.item) w.before in
+      outcomes_length does says s ahead ∙ ap length (sym w.order) ∙ length-map w.before (λ u. u.item) in
       record {
         before = M.answers ++ each w.before early;
         behind = each w.behind later;

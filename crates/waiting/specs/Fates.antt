@@ -1,9 +1,9 @@
 -- What becomes of one order that is taken, and what a fetch of its ticket says.
 -- Assumes nothing.
-use Rattle.std.specs.Prelude.{ℕ}
+use Rattle.std.specs.Prelude.{ℕ, Err}
 use Rattle.waiting.specs.declared.Outcome.{Outcome}
-use Rattle.waiting.specs.declared.Fetching.{Fetching}
-use Rattle.waiting.specs.declared.Fetching.TheVariants as fetching
+use Rattle.waiting.specs.Types.{Fetching}
+use Rattle.waiting.specs.declared.Unfetched.TheVariants as unfetched
 use Rattle.waiting.specs.Layout.{answer_of}
 
 -- It waits; it is answered, and the answer is to be fetched; or its answer is fetched, or it was struck off with all others.
@@ -13,9 +13,9 @@ pub data Fate : Type 0 where
   Gone : Fate
 
 abbrev pub fetched_of : ℕ → Fate → Fetching
-fetched_of t Waits = fetching.Waits t
+fetched_of t Waits = Err (unfetched.Waits t)
 fetched_of t (Answered r) = answer_of r
-fetched_of t Gone = fetching.Unknown
+fetched_of t Gone = Err unfetched.Unknown
 
 -- After a run that answers it r, and after a fetch of its ticket.
 abbrev pub ran : Outcome → Fate → Fate

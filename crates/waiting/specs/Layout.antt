@@ -4,15 +4,12 @@
 --   a place: the ticket; then of an order the kind, the name, the weight; of an answer its number and value (the last is not looked at).
 -- What an order does when it is carried out is not said here.
 -- Assumes nothing.
-use Rattle.std.specs.Prelude.{Bool, cond, not, ◌||◌, List, [], ◌∷◌, ℕ, zero, suc, ◌+◌, ◌-◌, ◌*◌, ◌%◌, eqb, ltb, length, get_or, set}
+use Rattle.std.specs.Prelude.{Bool, cond, not, ◌||◌, List, [], ◌∷◌, ℕ, zero, suc, ◌+◌, ◌-◌, ◌*◌, ◌%◌, eqb, ltb, length, get_or, set, Ok, Err, Option, Some, None}
 use Rattle.waiting.specs.declared.Order.{Order}
 use Rattle.waiting.specs.declared.Outcome.{Outcome}
-use Rattle.waiting.specs.declared.Taking.{Taking}
-use Rattle.waiting.specs.declared.Taking.TheVariants as taking
-use Rattle.waiting.specs.declared.Known.{Known}
-use Rattle.waiting.specs.declared.Known.TheVariants as place
-use Rattle.waiting.specs.declared.Fetching.{Fetching}
-use Rattle.waiting.specs.declared.Fetching.TheVariants as fetching
+use Rattle.waiting.specs.Types.{Taking, Known, Fetching}
+use Rattle.waiting.specs.declared.Held.TheVariants as held
+use Rattle.waiting.specs.declared.Unfetched.TheVariants as unfetched
 
 -- ---- what stands on a list
 
@@ -74,7 +71,7 @@ joined L o =
     counted (set (put_at L (places_in L) t o) 0 t) (answers_in L) (orders_in L + 1)
 
 abbrev pub taken : List ℕ → Taking
-taken L = cond (full L) taking.Queue (taking.Waiting (last_ticket L + 1))
+taken L = cond (full L) None (Some (last_ticket L + 1))
 
 abbrev pub taken_list : List ℕ → Order → List ℕ
 taken_list L o = let more = joined L o in cond (full L) L more
@@ -100,13 +97,17 @@ unfoldable pub found_from : List ℕ → ℕ → ℕ → ℕ → ℕ
 found_from L t i zero = i
 found_from L t i (suc m) = let later = found_from L t (suc i) m in cond (eqb (ticket_at L i) t) i later
 
+-- The first of n places that has the ticket t, if one has.
+abbrev pub first_of : List ℕ → ℕ → ℕ → Option ℕ
+first_of L t n = let i = found_from L t 0 n in cond (ltb i n) (Some i) None
+
 unfoldable pub place_of : List ℕ → ℕ → ℕ
 place_of L t = found_from L t 0 (places_in L)
 
 -- What the list knows of a ticket. Ticket 0 is never known.
 unfoldable pub found : List ℕ → ℕ → Known
-found L t = cond (eqb t 0) place.Nowhere
-    (cond (ltb (place_of L t) (answers_in L)) (place.Answer (place_of L t)) (cond (ltb (place_of L t) (places_in L)) place.Order place.Nowhere))
+found L t = cond (eqb t 0) None
+    (cond (ltb (place_of L t) (answers_in L)) (Some (held.Answer (place_of L t))) (cond (ltb (place_of L t) (places_in L)) (Some held.Order) None))
 
 -- The list with m numbers, from j on, replaced by those four further on.
 unfoldable pub lowered : List ℕ → ℕ → ℕ → List ℕ
@@ -118,21 +119,21 @@ unfoldable pub without_place : List ℕ → ℕ → List ℕ
 without_place L i = counted (lowered L (3 + 4 * i) (4 * (places_in L - (i + 1)))) (answers_in L - 1) (orders_in L)
 
 abbrev pub answer_of : Outcome → Fetching
-answer_of r = fetching.Answer r.number r.value
+answer_of r = Ok r
 
 abbrev pub fetching_by : List ℕ → ℕ → Known → Fetching
-fetching_by L t place.Nowhere = fetching.Unknown
-fetching_by L t place.Order = fetching.Waits t
-fetching_by L t (place.Answer i) = answer_of (outcome_at L i)
+fetching_by L t None = Err unfetched.Unknown
+fetching_by L t (Some held.Order) = Err (unfetched.Waits t)
+fetching_by L t (Some (held.Answer i)) = answer_of (outcome_at L i)
 
 abbrev pub fetched_by : List ℕ → Known → List ℕ
-fetched_by L place.Nowhere = L
-fetched_by L place.Order = L
-fetched_by L (place.Answer i) = without_place L i
+fetched_by L None = L
+fetched_by L (Some held.Order) = L
+fetched_by L (Some (held.Answer i)) = without_place L i
 
 -- A list that is too short knows no ticket.
 abbrev pub fetched : List ℕ → ℕ → Fetching
-fetched L t = cond (too_short (length L)) fetching.Unknown (fetching_by L t (found L t))
+fetched L t = cond (too_short (length L)) (Err unfetched.Unknown) (fetching_by L t (found L t))
 
 abbrev pub fetched_list : List ℕ → ℕ → List ℕ
 fetched_list L t = cond (too_short (length L)) L (fetched_by L (found L t))

@@ -1,3 +1,4 @@
+pub mod Types
 pub mod Layout
 pub mod Carrying
 pub mod Meaning

@@ -1,11 +1,11 @@
 -- What a list means: the last ticket given, the answers that are to be fetched and the orders that wait, each under its ticket, in the order of arrival; and
 -- what taking, running, fetching and emptying make of it. proofs/Laws shows that they do just this to the numbers of a list.
 -- Assumes nothing.
-use Rattle.std.specs.Prelude.{cond, List, [], ◌∷◌, ◌++◌, map, ℕ, zero, suc, ◌+◌, ◌%◌, ◌≤◌, ◌<◌, eqb, length}
+use Rattle.std.specs.Prelude.{cond, List, [], ◌∷◌, ◌++◌, map, ℕ, zero, suc, ◌+◌, ◌%◌, ◌≤◌, ◌<◌, eqb, length, Err}
 use Rattle.waiting.specs.declared.Order.{Order}
 use Rattle.waiting.specs.declared.Outcome.{Outcome}
-use Rattle.waiting.specs.declared.Fetching.{Fetching}
-use Rattle.waiting.specs.declared.Fetching.TheVariants as fetching
+use Rattle.waiting.specs.Types.{Fetching}
+use Rattle.waiting.specs.declared.Unfetched.TheVariants as unfetched
 use Rattle.waiting.specs.Layout.{last_ticket, answers_in, orders_in, ticket_at, order_at, outcome_at, answer_of}
 
 -- An order or an answer under its ticket.
@@ -67,15 +67,15 @@ with_nothing M = record { last = M.last; answers = []; orders = [] }
 
 -- What a fetch says: the answer under the ticket, or that the order under it waits. Ticket 0 is never known.
 unfoldable pub order_under : ℕ → List (Under Order) → Fetching
-order_under t [] = fetching.Unknown
-order_under t (o ∷ os) = let later = order_under t os in cond (eqb o.ticket t) (fetching.Waits t) later
+order_under t [] = Err unfetched.Unknown
+order_under t (o ∷ os) = let later = order_under t os in cond (eqb o.ticket t) (Err (unfetched.Waits t)) later
 
 unfoldable pub answer_under : ℕ → List (Under Outcome) → Fetching → Fetching
 answer_under t [] other = other
 answer_under t (r ∷ rs) other = let later = answer_under t rs other in cond (eqb r.ticket t) (answer_of r.item) later
 
 abbrev pub told : Meaning → ℕ → Fetching
-told M t = cond (eqb t 0) fetching.Unknown (answer_under t M.answers (order_under t M.orders))
+told M t = cond (eqb t 0) (Err unfetched.Unknown) (answer_under t M.answers (order_under t M.orders))
 
 -- ---- a list as calls leave it
 

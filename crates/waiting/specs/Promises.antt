@@ -2,8 +2,7 @@
 -- Assumes nothing.
 use Rattle.std.specs.Prelude.{◌≡◌, List, ℕ}
 use Rattle.waiting.specs.declared.Order.{Order}
-use Rattle.waiting.specs.declared.Taking.{Taking}
-use Rattle.waiting.specs.declared.Fetching.{Fetching}
+use Rattle.waiting.specs.Types.{Taking, Fetching}
 use Rattle.waiting.specs.Layout.{taken, taken_list, fetched, fetched_list}
 
 abbrev pub Takes : List ℕ → Order → Taking → List ℕ → Type 0

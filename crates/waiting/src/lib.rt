@@ -1,4 +1,5 @@
 // The waiting list, a lent run of numbers: taking an order, leaving its answer, fetching it, emptying the list. What an order does is not known here.
+// Each call takes the run itself, since C lends it: one that is long enough, but for `fetch`, which tests that.
 #![tactic(auto)]
 
 ghost use Rattle.std.specs.Prelude.{◌≡◌, ◌+◌, ◌≤◌, ◌<◌, length};
@@ -11,61 +12,86 @@ pub const LENGTH: usize = 259;
 // How many places.
 pub const PLACES: usize = 64;
 
-// The last ticket that can be given, 2^64 - 1.
-const LAST_TICKET: u64 = 18446744073709551615;
-
-// A change that is asked for. Which kinds there are is for those who carry it out.
-#[derive(Clone, Copy)]
+// A change that is asked for. What a kind does is for those who carry it out.
+#[derive(Clone, Copy, Debug, PartialEq, Eq)]
 pub struct Order {
+    // A number, since a lent list may hold any here, and `order_at` promises the order that each is.
     pub kind: u16,
     pub name: u16,
     pub weight: u16,
 }
 
+impl Order {
+    // The kind that admits a stream.
+    pub const ADD: u16 = 1;
+
+    // The kind that removes a stream.
+    pub const REMOVE: u16 = 2;
+
+    // The kind that admits an over-allocated stream, of weight r in one piece of R leaves.
+    pub const OVER: u16 = 3;
+
+    // Returns the order to admit a stream of a weight.
+    pub fn add(name: u16, weight: u16) -> Order
+        ensures { result ≡ record { kind = 1; name = name; weight = weight } }
+    {
+        Order {
+            kind: Order::ADD,
+            name,
+            weight,
+        }
+    }
+
+    // Returns the order to remove a stream. Its weight is 0.
+    pub fn remove(name: u16) -> Order
+        ensures { result ≡ record { kind = 2; name = name; weight = 0 } }
+    {
+        Order {
+            kind: Order::REMOVE,
+            name,
+            weight: 0,
+        }
+    }
+
+    // Returns the order to admit an over-allocated stream of weight r.
+    pub fn over(name: u16, weight: u16) -> Order
+        ensures { result ≡ record { kind = 3; name = name; weight = weight } }
+    {
+        Order {
+            kind: Order::OVER,
+            name,
+            weight,
+        }
+    }
+}
+
 // What an order was answered.
-#[derive(Clone, Copy)]
+#[derive(Clone, Copy, Debug, PartialEq, Eq)]
 pub struct Outcome {
+    // A number, since a lent list may hold any here, and `fetch` promises the outcome that each is.
     pub number: u64,
     pub value: u64,
 }
 
 // How many answers and orders a list has.
-#[derive(Clone, Copy)]
+#[derive(Clone, Copy, Debug, PartialEq, Eq)]
 pub struct Tally {
     pub answers: usize,
     pub orders: usize,
 }
 
-// What becomes of an order that is to wait: its ticket, or no place for it.
+// What the list holds under a ticket: the place of an answer, or an order.
 #[derive(Clone, Copy)]
-pub enum Taking {
-    Waiting(u64),
-    Queue,
-}
-
-// What the list knows of a ticket: the place of its answer, that its order waits, or nothing.
-#[derive(Clone, Copy)]
-enum Known {
+enum Held {
     Answer(usize),
     Order,
-    Nowhere,
 }
 
-// The answer of fetch: what the order was answered, that it waits, or no such ticket.
-#[derive(Clone, Copy)]
-pub enum Fetching {
-    Answer { number: u64, value: u64 },
+// Why no answer was fetched: the order waits, or there is no such ticket.
+#[derive(Clone, Copy, Debug, PartialEq, Eq)]
+pub enum Unfetched {
     Waits(u64),
     Unknown,
-}
-
-fn least(m: u64, n: u64) -> u64
-    ensures { result ≡ layout.least m n }
-{
-    if m < n {
-        return m;
-    }
-    n
 }
 
 // How many answers and orders the list has.
@@ -73,8 +99,9 @@ pub fn counts(list: &[u64]) -> Tally
     requires { 259 ≤ length list.now }
     ensures { (result.answers ≡ layout.answers_in list.now) × (result.orders ≡ layout.orders_in list.now) × (result.answers + result.orders ≤ 64) }
 {
-    let answers = least(list[1], PLACES as u64);
-    let orders = least(list[2], PLACES as u64 - answers);
+    let places = PLACES as u64;
+    let answers = list[1].min(places);
+    let orders = list[2].min(places - answers);
     Tally {
         answers: answers as usize,
         orders: orders as usize,
@@ -82,6 +109,7 @@ pub fn counts(list: &[u64]) -> Tally
 }
 
 // Sets the two counts.
+#[tactic(auto, unfolding(crate::specs::Layout::counted))]
 fn set_counts(list: &mut [u64], answers: usize, orders: usize)
     requires { 259 ≤ length list.old }
     ensures { list.new ≡ layout.counted list.old answers orders }
@@ -91,6 +119,7 @@ fn set_counts(list: &mut [u64], answers: usize, orders: usize)
 }
 
 // The order at a place.
+#[tactic(auto, unfolding(crate::specs::Layout::order_at))]
 pub fn order_at(list: &[u64], i: usize) -> Order
     requires { (259 ≤ length list.now) × (i < 64) }
     ensures { result ≡ layout.order_at list.now i }
@@ -104,6 +133,7 @@ pub fn order_at(list: &[u64], i: usize) -> Order
 }
 
 // The answer at a place.
+#[tactic(auto, unfolding(crate::specs::Layout::outcome_at))]
 fn outcome_at(list: &[u64], i: usize) -> Outcome
     requires { (259 ≤ length list.now) × (i < 64) }
     ensures { result ≡ layout.outcome_at list.now i }
@@ -116,6 +146,7 @@ fn outcome_at(list: &[u64], i: usize) -> Outcome
 }
 
 // Leaves the answer of the order at a place there.
+#[tactic(auto, unfolding(crate::specs::Layout::answered_at))]
 pub fn answer_at(list: &mut [u64], i: usize, said: Outcome)
     requires { (259 ≤ length list.old) × (i < 64) }
     ensures { list.new ≡ layout.answered_at list.old i said }
@@ -134,6 +165,7 @@ pub fn settle(list: &mut [u64], end: usize)
 }
 
 // Writes an order to a place, under a ticket.
+#[tactic(auto, unfolding(crate::specs::Layout::put_at))]
 fn put_at(list: &mut [u64], i: usize, ticket: u64, order: Order)
     requires { (259 ≤ length list.old) × (i < 64) }
     ensures { list.new ≡ layout.put_at list.old i ticket order }
@@ -146,71 +178,60 @@ fn put_at(list: &mut [u64], i: usize, ticket: u64, order: Order)
 }
 
 // Takes an order behind those that wait, if there is a place and a ticket for it.
-pub fn take(list: &mut [u64], order: Order) -> Taking
+#[tactic(auto, using(crate::proofs::Listing::not_full, crate::proofs::Listing::full_places, crate::proofs::Listing::full_tickets), unfolding(crate::specs::Layout::joined))]
+pub fn take(list: &mut [u64], order: Order) -> Option<u64>
     requires { 259 ≤ length list.old }
     ensures { promises.Takes list.old order result list.new }
 {
     let n = counts(list);
     let i = n.answers + n.orders;
-    let last = list[0];
-    if i < PLACES {
-        if last < LAST_TICKET {
-            put_at(list, i, last + 1, order);
-            list[0] = last + 1;
-            set_counts(list, n.answers, n.orders + 1);
-            return Taking::Waiting(last + 1);
-        }
+    if i == PLACES {
+        return None;
     }
-    Taking::Queue
+    let ticket = list[0].checked_add(1)?;
+    put_at(list, i, ticket, order);
+    list[0] = ticket;
+    set_counts(list, n.answers, n.orders + 1);
+    Some(ticket)
 }
 
-// The first of n places that has the ticket; n where none has.
-fn place_of(list: &[u64], ticket: u64, n: usize) -> usize
+// The first of n places that has the ticket, if one has.
+fn place_of(list: &[u64], ticket: u64, n: usize) -> Option<usize>
     requires { (259 ≤ length list.now) × (n ≤ 64) }
-    ensures { result ≡ layout.found_from list.now ticket 0 n }
+    ensures { result ≡ layout.first_of list.now ticket n }
 {
-    let mut i: usize = 0;
-    while i < n {
-        if list[3 + 4 * i] == ticket {
-            return i;
-        }
-        i += 1;
-    }
-    i
+    (0..n).position(|i| list[3 + 4 * i] == ticket)
 }
 
 // What the list knows of a ticket.
-fn find(list: &[u64], ticket: u64) -> Known
+#[tactic(auto, unfolding(crate::specs::Layout::found, crate::specs::Layout::place_of))]
+fn find(list: &[u64], ticket: u64) -> Option<Held>
     requires { 259 ≤ length list.now }
     ensures { result ≡ layout.found list.now ticket }
 {
     if ticket == 0 {
-        return Known::Nowhere;
+        return None;
     }
     let n = counts(list);
-    let i = place_of(list, ticket, n.answers + n.orders);
+    let i = place_of(list, ticket, n.answers + n.orders)?;
     if i < n.answers {
-        return Known::Answer(i);
+        Some(Held::Answer(i))
+    } else {
+        Some(Held::Order)
     }
-    if i < n.answers + n.orders {
-        return Known::Order;
-    }
-    Known::Nowhere
 }
 
 // Moves m numbers down by four, to j and on.
+#[tactic(auto, using(crate::proofs::Listing::lowered_paste))]
 fn lower(list: &mut [u64], j: usize, m: usize)
     requires { (j + m + 4 ≤ length list.old) × (j + m ≤ 259) }
     ensures { list.new ≡ layout.lowered list.old j m }
 {
-    let mut i: usize = 0;
-    while i < m {
-        list[j + i] = list[j + i + 4];
-        i += 1;
-    }
+    list.copy_within(j + 4..j + 4 + m, j);
 }
 
 // Takes the answer at a place off the list: the later places move down.
+#[tactic(auto, unfolding(crate::specs::Layout::without_place))]
 fn drop_at(list: &mut [u64], i: usize)
     requires { (259 ≤ length list.old) × (i < layout.answers_in list.old) }
     ensures { list.new ≡ layout.without_place list.old i }
@@ -221,27 +242,25 @@ fn drop_at(list: &mut [u64], i: usize)
 }
 
 // Fetches an answer by its ticket, once.
-pub fn fetch(list: &mut [u64], ticket: u64) -> Fetching
+#[tactic(auto, using(crate::proofs::Listing::found_below, crate::proofs::Listing::found_small))]
+pub fn fetch(list: &mut [u64], ticket: u64) -> Result<Outcome, Unfetched>
     ensures { promises.Fetches list.old ticket result list.new }
 {
     if list.len() < LENGTH {
-        return Fetching::Unknown;
+        return Err(Unfetched::Unknown);
     }
-    match find(list, ticket) {
-        Known::Nowhere => Fetching::Unknown,
-        Known::Order => Fetching::Waits(ticket),
-        Known::Answer(i) => {
+    match find(list, ticket).ok_or(Unfetched::Unknown)? {
+        Held::Order => Err(Unfetched::Waits(ticket)),
+        Held::Answer(i) => {
             let said = outcome_at(list, i);
             drop_at(list, i);
-            Fetching::Answer {
-                number: said.number,
-                value: said.value,
-            }
+            Ok(said)
         }
     }
 }
 
 // Empties the list. The tickets count on.
+#[tactic(auto, unfolding(crate::specs::Layout::emptied))]
 pub fn empty(list: &mut [u64])
     requires { 259 ≤ length list.old }
     ensures { list.new ≡ layout.emptied list.old }

@@ -19,194 +19,198 @@
 
 use calls::Drive;
 use std::io;
-use telling::answers::{tell_checked, tell_served};
-use telling::reading::{letter_at, line_end, long_at, number_at, read_text, record_of, text_room};
-use telling::stores::{
-    fill, fill_list, put, put_byte, put_list, within, within_bytes, within_list,
-};
-use telling::{end_line, say, say_entries, say_list, say_record};
-use telling_orders::{tell_fetching, tell_ordered, tell_saved};
+use telling::answers::{Told, tell};
+use telling::playing::{Player, play};
+use telling::reading::{long_at, number_at, read_text, record_of};
+use telling::stores::{part, put, within};
+use telling::{Record, Spaced};
 use waiting::Order;
 
-// The record, how many entries of the board's store and how many numbers of the list's are lent.
+// What a line asks for.
 #[derive(Clone, Copy)]
-struct State {
+enum Act {
+    Lend(Lent),
+    Fix { entry: usize, name: u16 },
+    Tag { number: usize, value: u64 },
+    Mar { byte: usize, value: u8 },
+    Row { from: usize, shown: usize },
+    List { from: usize, shown: usize },
+    Hold(Drive),
+    Call(Call),
+}
+
+// How much is lent of the stores of the board and of the list, and what each entry and each number becomes.
+#[derive(Clone, Copy)]
+struct Lent {
+    entries: usize,
+    name: u16,
+    numbers: usize,
+    value: u64,
+}
+
+// A call that a line asks for.
+#[derive(Clone, Copy)]
+enum Call {
+    Open(u16),
+    Add { name: u16, weight: u16 },
+    Remove(u16),
+    Slot,
+    Fetch(u64),
+    Try(Order),
+    Round { shown: usize },
+    Save,
+    Read { bytes: usize },
+}
+
+impl Act {
+    // The act of a line, which is told from others by its third letter; a remark has none. One letter tells the acts, so that remarks and longer words read as
+    // they do: whole words would act otherwise on other inputs.
+    fn parse(line: &[u8]) -> Option<Act> {
+        let at = usize::from(number_at(line, 0));
+        let x = number_at(line, 1);
+        let act = match line.get(2)? {
+            b'n' => Act::Lend(Lent {
+                entries: at,
+                name: x,
+                numbers: usize::from(number_at(line, 2)),
+                value: long_at(line, 3),
+            }),
+            b'x' => Act::Fix { entry: at, name: x },
+            b'g' => Act::Tag {
+                number: at,
+                value: long_at(line, 1),
+            },
+            b'r' => Act::Mar {
+                byte: at,
+                value: (x % 256) as u8,
+            },
+            b'w' => Act::Row {
+                from: at,
+                shown: usize::from(x),
+            },
+            b's' => Act::List {
+                from: at,
+                shown: usize::from(x),
+            },
+            b'l' => Act::Hold(record_of(line)),
+            letter => Act::Call(Call::parse(*letter, line)?),
+        };
+        Some(act)
+    }
+}
+
+impl Call {
+    // The call of a line with such a third letter; see `Act::parse`.
+    fn parse(letter: u8, line: &[u8]) -> Option<Call> {
+        let first = number_at(line, 0);
+        let second = number_at(line, 1);
+        let call = match letter {
+            b'e' => Call::Open(first),
+            b'd' => Call::Add {
+                name: first,
+                weight: second,
+            },
+            b'm' => Call::Remove(first),
+            b'o' => Call::Slot,
+            b't' => Call::Fetch(long_at(line, 0)),
+            b'y' => Call::Try(Order {
+                kind: first,
+                name: second,
+                weight: number_at(line, 2),
+            }),
+            b'u' => Call::Round {
+                shown: usize::from(first),
+            },
+            b'v' => Call::Save,
+            b'a' => Call::Read {
+                bytes: usize::from(first),
+            },
+            _ => return None,
+        };
+        Some(call)
+    }
+}
+
+// The record, how many entries of the board's store and how many numbers of the list's are lent, and the stores.
+#[derive(Drop)]
+struct Desk {
     drive: Drive,
-    board: usize,
-    list: usize,
+    entries: usize,
+    numbers: usize,
+    board: [u16; 4097],
+    list: [u64; 300],
+    sheet: [u8; 2048],
 }
 
-fn names() -> [u16; 4097] {
-    [0u16; 4097]
-}
-
-fn rounds(rt: &impl Print, d: Drive, board: &[u16], shown: usize) -> io::Result<Drive> {
-    let mut output = names();
-    let after = tell_checked(rt, d.round(board, &mut output))?;
-    say_entries(rt, &output, 0, shown)?;
-    Ok(after)
-}
-
-fn fetches(rt: &impl Print, d: Drive, list: &mut [u64], ticket: u64) -> io::Result<Drive> {
-    tell_fetching(rt, waiting::fetch(list, ticket))?;
-    Ok(d)
-}
-
-fn reads(
-    rt: &impl Print,
-    sheet: &[u8],
-    n: usize,
-    board: &mut [u16],
-    list: &mut [u64],
-) -> io::Result<Drive> {
-    let bytes = within_bytes(n, sheet);
-    tell_checked(rt, orders::read(&sheet[..bytes], board, list))
-}
-
-// The change of any kind that a line gives.
-fn order_of(line: &[u8]) -> Order {
-    Order {
-        kind: number_at(line, 0),
-        name: number_at(line, 1),
-        weight: number_at(line, 2),
+impl Desk {
+    // Makes a call, and says the record after it.
+    fn call(mut self, rt: &impl Print, call: Call) -> io::Result<Desk> {
+        let m = within(self.entries, &self.board);
+        let n = within(self.numbers, &self.list);
+        let drive = self.drive;
+        let board = &mut self.board[..m];
+        let list = &mut self.list[..n];
+        self.drive = match call {
+            Call::Open(capacity) => tell(rt, orders::open(capacity, board, list))?,
+            Call::Add { name, weight } => tell(rt, orders::add(drive, board, list, name, weight))?,
+            Call::Remove(name) => tell(rt, orders::remove(drive, board, list, name))?,
+            Call::Try(order) => tell(rt, orders::change(drive, board, list, order))?,
+            Call::Slot => tell(rt, orders::slot(drive, board, list))?,
+            Call::Fetch(ticket) => {
+                print!(rt; ": {}", Told(waiting::fetch(list, ticket)))?;
+                drive
+            }
+            Call::Round { shown } => {
+                let mut output = [0; 4097];
+                let after = tell(rt, drive.round(board, &mut output))?;
+                print!(rt; "{}", Spaced(part(&output, 0, shown)))?;
+                after
+            }
+            Call::Save => tell(rt, sheets::save(drive, board, &mut self.sheet))?,
+            Call::Read { bytes } => {
+                tell(rt, orders::read(part(&self.sheet, 0, bytes), board, list))?
+            }
+        };
+        print!(rt; " {}", Record(self.drive))?;
+        Ok(self)
     }
 }
 
-// Makes the call that a line stands for.
-fn call(
-    rt: &impl Print,
-    d: Drive,
-    line: &[u8],
-    board: &mut [u16],
-    list: &mut [u64],
-    sheet: &mut [u8],
-) -> io::Result<Drive> {
-    let a = number_at(line, 0);
-    match letter_at(line, 2) {
-        b'e' => tell_checked(rt, orders::open(a, board, list)),
-        b'd' => tell_ordered(rt, orders::add(d, board, list, a, number_at(line, 1))),
-        b'm' => tell_ordered(rt, orders::remove(d, board, list, a)),
-        b'y' => tell_ordered(rt, orders::change(d, board, list, order_of(line))),
-        b'o' => tell_served(rt, orders::slot(d, board, list)),
-        b't' => fetches(rt, d, list, long_at(line, 0)),
-        b'u' => rounds(rt, d, board, a as usize),
-        b'v' => tell_saved(rt, sheets::save(d, board, sheet)),
-        _ => reads(rt, sheet, a as usize, board, list),
+impl Player for Desk {
+    fn play(mut self, rt: &impl Print, line: &[u8]) -> io::Result<Desk> {
+        match Act::parse(line) {
+            None => {}
+            Some(Act::Lend(lent)) => {
+                self.board.fill(lent.name);
+                self.list.fill(lent.value);
+                self.entries = lent.entries;
+                self.numbers = lent.numbers;
+            }
+            Some(Act::Fix { entry, name }) => put(&mut self.board, entry, name),
+            Some(Act::Tag { number, value }) => put(&mut self.list, number, value),
+            Some(Act::Mar { byte, value }) => put(&mut self.sheet, byte, value),
+            Some(Act::Row { from, shown }) => {
+                print!(rt; ":{}", Spaced(part(&self.board, from, shown)))?;
+            }
+            Some(Act::List { from, shown }) => {
+                print!(rt; ":{}", Spaced(part(&self.list, from, shown)))?;
+            }
+            Some(Act::Hold(drive)) => self.drive = drive,
+            Some(Act::Call(call)) => return self.call(rt, call),
+        }
+        Ok(self)
     }
-}
-
-// Carries out a line that stands for a call.
-fn carry_out(
-    rt: &impl Print,
-    s: State,
-    line: &[u8],
-    board: &mut [u16],
-    list: &mut [u64],
-    sheet: &mut [u8],
-) -> io::Result<State> {
-    say(rt, b":")?;
-    let m = within(s.board, board);
-    let n = within_list(s.list, list);
-    let d = s.drive;
-    let after = call(rt, d, line, &mut board[..m], &mut list[..n], sheet)?;
-    say_record(rt, after)?;
-    Ok(State {
-        drive: after,
-        board: m,
-        list: n,
-    })
-}
-
-// Carries out a line that stands for none.
-fn arrange(
-    rt: &impl Print,
-    mut s: State,
-    line: &[u8],
-    board: &mut [u16],
-    list: &mut [u64],
-    sheet: &mut [u8],
-) -> io::Result<State> {
-    let at = number_at(line, 0) as usize;
-    let x = number_at(line, 1);
-    match letter_at(line, 2) {
-        b'n' => {
-            fill(board, x);
-            fill_list(list, long_at(line, 3));
-            s.board = at;
-            s.list = number_at(line, 2) as usize;
-        }
-        b'l' => {
-            s.drive = record_of(line);
-        }
-        b'x' => put(board, at, x),
-        b'g' => put_list(list, at, long_at(line, 1)),
-        b'r' => put_byte(sheet, at, (x % 256) as u8),
-        b'w' => {
-            say(rt, b":")?;
-            say_entries(rt, board, at, at + x as usize)?;
-        }
-        b's' => {
-            say(rt, b":")?;
-            say_list(rt, list, at, at + x as usize)?;
-        }
-        _ => {}
-    }
-    Ok(s)
-}
-
-// Carries out a line, which is told from others by its third letter.
-fn next(
-    rt: &impl Print,
-    s: State,
-    line: &[u8],
-    board: &mut [u16],
-    list: &mut [u64],
-    sheet: &mut [u8],
-) -> io::Result<State> {
-    say(rt, line)?;
-    match letter_at(line, 2) {
-        b'e' | b'd' | b'm' | b'y' | b'o' | b't' | b'u' | b'v' | b'a' => {
-            carry_out(rt, s, line, board, list, sheet)
-        }
-        _ => arrange(rt, s, line, board, list, sheet),
-    }
-}
-
-fn play(
-    rt: &impl Print,
-    text: &[u8],
-    board: &mut [u16],
-    list: &mut [u64],
-    sheet: &mut [u8],
-) -> io::Result<()> {
-    let mut s = State {
-        drive: Drive::new(0, 0),
-        board: 0,
-        list: 0,
-    };
-    let mut at: usize = 0;
-    while at < text.len() {
-        let end = line_end(text, at);
-        s = next(rt, s, &text[at..end], board, list, sheet)?;
-        end_line(rt)?;
-        at = end + 1;
-    }
-    Ok(())
-}
-
-fn numbers() -> [u64; 300] {
-    [0u64; 300]
-}
-
-fn bytes() -> [u8; 2048] {
-    [0u8; 2048]
 }
 
 fn main(rt: HostRuntime) -> io::Result<()> {
-    let mut text = text_room();
-    let n = read_text(&rt, &mut text)?;
-    let mut board = names();
-    let mut list = numbers();
-    let mut sheet = bytes();
-    play(&rt, &text[..n], &mut board, &mut list, &mut sheet)
+    let text = read_text(rt.alloc(), rt.reader())?;
+    let desk = Desk {
+        drive: Drive::new(0, 0),
+        entries: 0,
+        numbers: 0,
+        board: [0; 4097],
+        list: [0; 300],
+        sheet: [0; 2048],
+    };
+    play(&rt, &text, desk)
 }

@@ -14,141 +14,145 @@
 
 use calls::Drive;
 use std::io;
-use telling::answers::{tell_changed, tell_checked, tell_reported, tell_served};
-use telling::reading::{letter_at, line_end, number_at, read_text, record_of, text_room};
-use telling::stores::{fill, put, within};
-use telling::{end_line, say, say_entries, say_record};
+use telling::answers::tell;
+use telling::playing::{Player, play};
+use telling::reading::{number_at, read_text, record_of};
+use telling::stores::{part, put, within};
+use telling::{Record, Spaced};
 
-// The record, and how many entries of the store are lent.
+// What a line asks for.
 #[derive(Clone, Copy)]
-struct State {
+enum Act {
+    Lend { entries: usize, name: u16 },
+    Put { entry: usize, name: u16 },
+    Leaves { from: usize, shown: usize },
+    Hold(Drive),
+    Call(Call),
+}
+
+// A call that a line asks for.
+#[derive(Clone, Copy)]
+enum Call {
+    Open(u16),
+    Add { name: u16, weight: u16 },
+    Remove(u16),
+    Slot,
+    Report(u16),
+    Lay,
+    Round { room: usize, shown: usize },
+}
+
+impl Act {
+    // The act of a line, which is told from others by its third letter; a remark has none. One letter tells the acts, so that remarks and longer words read as
+    // they do: whole words would act otherwise on other inputs.
+    fn parse(line: &[u8]) -> Option<Act> {
+        let at = usize::from(number_at(line, 0));
+        let x = number_at(line, 1);
+        let act = match line.get(2)? {
+            b'n' => Act::Lend {
+                entries: at,
+                name: x,
+            },
+            b't' => Act::Put { entry: at, name: x },
+            b'a' => Act::Leaves {
+                from: at,
+                shown: usize::from(x),
+            },
+            b'l' => Act::Hold(record_of(line)),
+            letter => Act::Call(Call::parse(*letter, line)?),
+        };
+        Some(act)
+    }
+}
+
+impl Call {
+    // The call of a line with such a third letter; see `Act::parse`.
+    fn parse(letter: u8, line: &[u8]) -> Option<Call> {
+        let first = number_at(line, 0);
+        let second = number_at(line, 1);
+        let call = match letter {
+            b'e' => Call::Open(first),
+            b'd' => Call::Add {
+                name: first,
+                weight: second,
+            },
+            b'm' => Call::Remove(first),
+            b'o' => Call::Slot,
+            b'p' => Call::Report(first),
+            b'y' => Call::Lay,
+            b'u' => Call::Round {
+                room: usize::from(first),
+                shown: usize::from(second),
+            },
+            _ => return None,
+        };
+        Some(call)
+    }
+}
+
+// The record, how many entries of the store are lent, and the store.
+#[derive(Drop)]
+struct Desk {
     drive: Drive,
     lent: usize,
+    store: [u16; 4097],
 }
 
-// A round to the first n entries of an output of 99s.
-fn rounds(
-    rt: &impl Print,
-    d: Drive,
-    board: &[u16],
-    output: &mut [u16],
-    n: usize,
-) -> io::Result<Drive> {
-    fill(output, 99);
-    let lent = within(n, output);
-    tell_checked(rt, d.round(board, &mut output[..lent]))
-}
-
-// Makes the call that a letter stands for.
-fn call(
-    rt: &impl Print,
-    d: Drive,
-    letter: u8,
-    a: u16,
-    b: u16,
-    board: &mut [u16],
-    output: &mut [u16],
-) -> io::Result<Drive> {
-    match letter {
-        b'e' => tell_checked(rt, Drive::open(a, board)),
-        b'd' => tell_changed(rt, d.add(board, a, b)),
-        b'm' => tell_changed(rt, d.remove(board, a)),
-        b'y' => tell_checked(rt, d.fresh(board)),
-        b'o' => tell_served(rt, d.slot(board)),
-        b'p' => tell_reported(rt, d.report(board, a)),
-        _ => rounds(rt, d, board, output, a as usize),
+impl Desk {
+    // Makes a call, and says the record after it.
+    fn call(mut self, rt: &impl Print, call: Call) -> io::Result<Desk> {
+        let n = within(self.lent, &self.store);
+        let drive = self.drive;
+        let board = &mut self.store[..n];
+        self.drive = match call {
+            Call::Open(capacity) => tell(rt, Drive::open(capacity, board))?,
+            Call::Add { name, weight } => tell(rt, drive.add(board, name, weight))?,
+            Call::Remove(name) => tell(rt, drive.remove(board, name))?,
+            Call::Slot => tell(rt, drive.slot(board))?,
+            Call::Report(name) => tell(rt, drive.report(board, name))?,
+            Call::Lay => tell(rt, drive.fresh(board))?,
+            Call::Round { room, shown } => {
+                let mut output = [99; 4097];
+                let lent = within(room, &output);
+                self.drive = tell(rt, drive.round(board, &mut output[..lent]))?;
+                print!(rt;
+                    " {}{}",
+                    Record(self.drive),
+                    Spaced(part(&output, 0, shown))
+                )?;
+                return Ok(self);
+            }
+        };
+        print!(rt; " {}", Record(self.drive))?;
+        Ok(self)
     }
 }
 
-// Carries out a line that stands for a call.
-fn carry_out(
-    rt: &impl Print,
-    s: State,
-    line: &[u8],
-    store: &mut [u16],
-    output: &mut [u16],
-) -> io::Result<State> {
-    let letter = letter_at(line, 2);
-    let b = number_at(line, 1);
-    let lent = within(s.lent, store);
-    let d = s.drive;
-    say(rt, b":")?;
-    let after = call(
-        rt,
-        d,
-        letter,
-        number_at(line, 0),
-        b,
-        &mut store[..lent],
-        output,
-    )?;
-    say_record(rt, after)?;
-    if letter == b'u' {
-        say_entries(rt, output, 0, b as usize)?;
-    }
-    Ok(State { drive: after, lent })
-}
-
-// Carries out a line that stands for none.
-fn arrange(rt: &impl Print, mut s: State, line: &[u8], store: &mut [u16]) -> io::Result<State> {
-    let at = number_at(line, 0) as usize;
-    let x = number_at(line, 1);
-    match letter_at(line, 2) {
-        b'n' => {
-            fill(store, x);
-            s.lent = at;
+impl Player for Desk {
+    fn play(mut self, rt: &impl Print, line: &[u8]) -> io::Result<Desk> {
+        match Act::parse(line) {
+            None => {}
+            Some(Act::Lend { entries, name }) => {
+                self.store.fill(name);
+                self.lent = entries;
+            }
+            Some(Act::Put { entry, name }) => put(&mut self.store, entry, name),
+            Some(Act::Leaves { from, shown }) => {
+                print!(rt; ":{}", Spaced(part(&self.store, from, shown)))?;
+            }
+            Some(Act::Hold(drive)) => self.drive = drive,
+            Some(Act::Call(call)) => return self.call(rt, call),
         }
-        b't' => put(store, at, x),
-        b'a' => {
-            say(rt, b":")?;
-            say_entries(rt, store, at, at + x as usize)?;
-        }
-        b'l' => {
-            s.drive = record_of(line);
-        }
-        _ => {}
+        Ok(self)
     }
-    Ok(s)
-}
-
-// Carries out a line, which is told from others by its third letter.
-fn next(
-    rt: &impl Print,
-    s: State,
-    line: &[u8],
-    store: &mut [u16],
-    output: &mut [u16],
-) -> io::Result<State> {
-    say(rt, line)?;
-    match letter_at(line, 2) {
-        b'e' | b'd' | b'm' | b'y' | b'o' | b'p' | b'u' => carry_out(rt, s, line, store, output),
-        _ => arrange(rt, s, line, store),
-    }
-}
-
-fn play(rt: &impl Print, text: &[u8], store: &mut [u16], output: &mut [u16]) -> io::Result<()> {
-    let mut s = State {
-        drive: Drive::new(0, 0),
-        lent: 0,
-    };
-    let mut at: usize = 0;
-    while at < text.len() {
-        let end = line_end(text, at);
-        s = next(rt, s, &text[at..end], store, output)?;
-        end_line(rt)?;
-        at = end + 1;
-    }
-    Ok(())
-}
-
-fn entries() -> [u16; 4097] {
-    [0u16; 4097]
 }
 
 fn main(rt: HostRuntime) -> io::Result<()> {
-    let mut text = text_room();
-    let n = read_text(&rt, &mut text)?;
-    let mut store = entries();
-    let mut output = entries();
-    play(&rt, &text[..n], &mut store, &mut output)
+    let text = read_text(rt.alloc(), rt.reader())?;
+    let desk = Desk {
+        drive: Drive::new(0, 0),
+        lent: 0,
+        store: [0; 4097],
+    };
+    play(&rt, &text, desk)
 }

@@ -1,22 +1,12 @@
 -- `groups::bad_lists` meets its contract. Assumes nothing.
-use Rattle.std.proofs.Common.{◌≡◌, refl, sym, ◌∙◌, ◌-◌, arith}
-use Rattle.groups.proofs.Faults.{any_here, any_next, any_last}
+use Rattle.std.proofs.Common.{refl, ◌∙◌, arith, rules, tests}
+use Rattle.std.proofs.lemmas.Iterator.{YieldsList-from_range}
+use Rattle.std.proofs.lemmas.Iterator.Search.{any_from_yields_List}
+use Rattle.groups.specs.Table.{bad_list}
+use Rattle.groups.proofs.Faults.{any_range}
 use Rattle.groups.proofs.bad_lists.Goals as goal
 
-pub loop-i-init : goal.loop-i-init
-loop-i-init c = let z : c.args.k - 0 ≡ c.args.k = omega arith in (omega arith, rw z refl)
-
-pub bad_list-requires : goal.bad_list-requires
-bad_list-requires c = let p = c.requires in (p.0, c.loop-i-test.true, p.1)
-
-pub returns-then-bad_list : goal.returns-then-bad_list
-returns-then-bad_list c = any_here _ _ _ c.loop-i-test.true (sym c.bad_list.ensures ∙ c.if-bad_list.true) ∙ c.loop-i.invariant.1
-
-pub overflow_add-i : goal.overflow_add-i
-overflow_add-i c = omega (arith, c.requires.0)
-
-pub loop-i-preserved : goal.loop-i-preserved
-loop-i-preserved c = (omega arith, any_next _ _ _ c.loop-i-test.true (sym c.bad_list.ensures ∙ c.if-bad_list.false) ∙ c.loop-i.invariant.1)
-
 pub returns : goal.returns
-returns c = any_last _ _ _ c.loop-i-test.false ∙ c.loop-i.invariant.1
+returns c =
+    let a = c.args in
+    any_from_yields_List (bad_list a.k a.starts.now) _ _ c.any.result c.any.ensures.ran (YieldsList-from_range 0 a.k a.k refl (omega arith)) (λ x b q h. search (rules, tests)) ∙ any_range (bad_list a.k a.starts.now) a.k 0

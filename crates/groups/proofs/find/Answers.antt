@@ -1,31 +1,15 @@
 -- `groups::find` meets its contract. Assumes nothing.
-use Rattle.std.proofs.Common.{◌≡◌, refl, ◌∙◌, ◌+◌, ◌-◌, arith}
-use Rattle.groups.proofs.RoundSteps.{list_here, list_next, list_last}
+use Rattle.std.proofs.Common.{◌≡◌, ◌-◌, arith, rules, tests, ltb, length, take, drop, length-take}
+use Rattle.std.proofs.lemmas.List.{length-drop}
+use Rattle.std.proofs.lemmas.Iterator.{YieldsList-from_slice}
+use Rattle.std.proofs.lemmas.Iterator.Search.{position_from_yields_List}
+use Rattle.groups.proofs.RoundSteps.{list_place}
 use Rattle.groups.proofs.find.Goals as goal
 
-pub loop-i-init : goal.loop-i-init
-loop-i-init c = let z : c.args.k - 0 ≡ c.args.k = omega arith in (omega arith, rw z refl)
-
-pub overflow_add-i : goal.overflow_add-i
-overflow_add-i c = omega (arith, c.requires.0)
-
-pub offset_bounds-starts-i : goal.offset_bounds-starts-i
-offset_bounds-starts-i c = omega (arith, c.requires.0)
-
-pub bounds-starts-i : goal.bounds-starts-i
-bounds-starts-i c = omega (arith, c.requires.1)
-
-pub overflow_cast-starts : goal.overflow_cast-starts
-overflow_cast-starts c = omega (arith, c.type_inv.starts (c.loop-i.i + 1))
-
-pub returns-then-v-starts : goal.returns-then-v-starts
-returns-then-v-starts c = list_here _ _ _ _ c.loop-i-test.true c.if-v-starts.true ∙ c.loop-i.invariant.1
-
-pub overflow_add-i-in-loop-i : goal.overflow_add-i-in-loop-i
-overflow_add-i-in-loop-i c = omega (arith, c.requires.0)
-
-pub loop-i-preserved : goal.loop-i-preserved
-loop-i-preserved c = (omega arith, list_next _ _ _ _ c.loop-i-test.true (omega arith) ∙ c.loop-i.invariant.1)
-
 pub returns : goal.returns
-returns c = list_last _ _ _ _ (omega arith) ∙ c.loop-i.invariant.1
+returns c =
+    let a = c.args in
+    let found = position_from_yields_List (λ y. ltb a.v y) _ _ c.position.result c.position.ensures.ran (YieldsList-from_slice (take (length a.starts.now - 1) (drop 1 a.starts.now)) cc) (λ x b q k. search (rules, tests)) in
+    let place = list_place a.starts.now a.k a.v c.requires in
+    let long : length (take (length a.starts.now - 1) (drop 1 a.starts.now)) ≡ a.k = omega (arith, length-take (length a.starts.now - 1) (drop 1 a.starts.now), length-drop 1 a.starts.now, c.requires) in
+    rw (long, place) at found

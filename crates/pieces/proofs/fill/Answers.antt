@@ -1,15 +1,13 @@
 -- `pieces::fill` meets its contract. Assumes nothing.
-use Rattle.std.proofs.Common.{refl, ap, ◌∙◌, ℕ, arith, length-set}
-use Rattle.pieces.proofs.LoopSteps.{fill_more}
-use Rattle.pieces.specs.Placing as placing
+use Rattle.std.proofs.Common.{◌≡◌, refl, ◌∙◌, ◌+◌, ◌-◌, length, take, drop, replicate, length-take-le, arith}
+use Rattle.std.proofs.lemmas.List.{length-drop}
+use Rattle.pieces.proofs.Filled.{fill_mid}
 use Rattle.pieces.proofs.fill.Goals as goal
 
-pub loop-i-init : goal.loop-i-init
-unfolding placing.fill
-loop-i-init c = (omega arith, refl, refl)
-
-pub loop-i-preserved : goal.loop-i-preserved
-loop-i-preserved c = (omega arith, simp length-set c.loop-i.invariant.1, fill_more _ _ _ _ c.loop-i.invariant.2)
-
 pub returns : goal.returns
-returns c = c.loop-i.invariant.2 ∙ ap (λ (k : ℕ). placing.fill c.args.board.now c.args.a k c.args.name) (omega arith)
+returns c =
+    let k : c.args.a + c.args.size - c.args.a ≡ c.args.size = omega arith in
+    let m : length (take c.args.size (drop c.args.a c.args.board.now)) ≡ c.args.size = length-take-le _ _ (omega (arith, length-drop c.args.a c.args.board.now)) in
+    let e : c.fill.new.self ≡ replicate c.args.size c.args.name =
+    c.fill.ensures.after (λ y same. same) ∙ rw (k, m) refl in
+    rw (k, e) (fill_mid c.args.board.now c.args.a c.args.size c.args.name c.requires.0)

@@ -7,6 +7,3 @@ pub weights-requires : goal.weights-requires
 weights-requires c =
     let e = c.empty-sizes.ensures in
     (omega arith, omega arith, rw e (blank_empty 12290 refl))
-
-pub returns : goal.returns
-returns c = c.weights.ensures.test

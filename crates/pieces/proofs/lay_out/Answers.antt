@@ -21,7 +21,7 @@ place_all-requires c =
     let p = c.requires in
     let k = c.slice_known-1.given in
     let l = c.list_names-n.ensures in
-    (search rules, layable _ c.args.board.now _ p.1 p.0 (λ i. omega (arith, k i)) c.weights.ensures p.2 _ _ l.1 c.fill.ensures)
+    layable _ c.args.board.now _ p.1 p.0 (λ i. omega (arith, k i)) c.weights.ensures p.2 _ _ l.1 c.fill.ensures
 
 pub returns : goal.returns
 returns c =

@@ -1,29 +1,30 @@
 -- `shares::slot` meets its contract. Assumes nothing.
-use Rattle.std.proofs.Common.{sym, ◌∙◌}
+use Rattle.std.proofs.Common.{◌≡◌, Ok, sym, ◌∙◌, rules, length}
 use Rattle.drives.proofs.Laws.{start_both}
 use Rattle.shares.specs.States.{lent}
+use Rattle.shares.specs.Checks.{list_check}
 use Rattle.shares.proofs.Readying.{share_ready, list_long}
+use Rattle.shares.proofs.Doings.{same_lent}
 use Rattle.shares.proofs.Turning.{slot_ready, slot_done}
 use Rattle.shares.proofs.slot.Goals as goal
+use Rattle.shares.proofs.slot.Goals.{In_default}
+
+clear : (c : In_default) → list_check c.args.own c.args.other (lent c.args.board.now c.args.rates.now c.args.owed.now c.args.owed_other.now) (length c.args.list.now) ≡ Ok tt
+clear c = rw c.look.ensures at (sym c.check_shares.ensures ∙ c.in_default.is)
 
 pub start-requires : goal.start-requires
 start-requires c =
-    let e = sym c.check_shares.ensures ∙ c.in-Clear.is in
+    let e = clear (goal.at.start-requires c).In_default in
     (share_ready _ _ _ _ e, λ t. (start_both _ _ (sym c.both_start-begins.ensures ∙ t)).0, list_long _ _ _ _ e)
-
-pub returns-in-Clear : goal.returns-in-Clear
-returns-in-Clear c =
-    let a = c.args in
-    let e = sym c.check_shares.ensures ∙ c.in-Clear.is in
-    let k = c.start.ensures in
-    let g = c.serve.ensures in
-    slot_done a.own a.other (lent a.board.now a.rates.now a.owed.now a.owed_other.now) a.list.now e _ _ k.0 c.both_start-begins.ensures _ k.1 _ _ g.0 g.1
 
 pub serve-requires : goal.serve-requires
 serve-requires c =
-    let a = c.args in
-    let e = sym c.check_shares.ensures ∙ c.in-Clear.is in
-    slot_ready a.own a.other (lent a.board.now a.rates.now a.owed.now a.owed_other.now) a.list.now e c.both_start-begins.result _ c.start.ensures.0
+    let e = clear (goal.at.serve-requires c).In_default in
+    slot_ready _ _ _ _ e _ _ (same_lent (search rules) (search rules) (search rules) (search rules) ∙ c.start.ensures.does)
 
-pub returns-in-Refused : goal.returns-in-Refused
-returns-in-Refused c = let e = sym c.check_shares.ensures ∙ c.in-Refused.is in (simp e, simp e, simp e, simp e)
+pub returns : goal.returns
+returns c =
+    let e = clear (goal.at.returns c).In_default in
+    let k = same_lent (search rules) (search rules) (search rules) (search rules) ∙ c.start.ensures.does in
+    let g = c.serve.ensures in
+    slot_done _ _ _ _ e _ _ k c.both_start-begins.ensures _ c.start.ensures.list _ _ g.0 g.1

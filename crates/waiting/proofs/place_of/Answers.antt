@@ -1,16 +1,13 @@
--- `waiting::place_of` meets its contract. Assumes nothing.
-use Rattle.std.proofs.Common.{sym, ◌∙◌, arith}
-use Rattle.waiting.proofs.Listing.{search_all, search_here, search_later, search_none}
+use Rattle.std.proofs.Common.{◌+◌, ◌*◌, refl, arith, rules, tests, get_or}
+use lib.Dec.{eqb}
+use Rattle.std.proofs.lemmas.Iterator.{YieldsList-from_range}
+use Rattle.std.proofs.lemmas.Iterator.Search.{position_from_yields_List}
+use Rattle.std.proofs.lemmas.List.FromFn.{length-range_with_len}
+use Rattle.waiting.proofs.Listing.{ticket_place}
 use Rattle.waiting.proofs.place_of.Goals as goal
 
-pub loop-i-init : goal.loop-i-init
-loop-i-init c = (omega arith, search_all _ _ _)
-
-pub returns-then-list-i : goal.returns-then-list-i
-returns-then-list-i c = sym (search_here _ _ _ _ c.loop-i-test.true c.if-list-i.true) ∙ c.loop-i.invariant.1
-
-pub loop-i-preserved : goal.loop-i-preserved
-loop-i-preserved c = (omega arith, search_later _ _ _ _ c.loop-i-test.true c.if-list-i.false ∙ c.loop-i.invariant.1)
-
 pub returns : goal.returns
-returns c = sym (search_none _ _ _ _ c.loop-i-test.false) ∙ c.loop-i.invariant.1
+returns c =
+    let a = c.args in
+    let found = position_from_yields_List (λ j. eqb (get_or a.list.now (3 + 4 * j) 0) a.ticket) _ _ c.position.result c.position.ensures.ran (YieldsList-from_range 0 a.n a.n refl (omega arith)) (λ x b q k. search (rules, tests)) in
+    rw (length-range_with_len 0 a.n, ticket_place a.list.now a.ticket a.n) at found

@@ -6,15 +6,10 @@ use Rattle.calls.proofs.Drive.open.Goals as goal
 
 pub fill-requires : goal.fill-requires
 fill-requires c =
-    let s = open_clear _ _ (sym c.check_open.ensures ∙ c.in-Clear.is) in
+    let s = open_clear _ _ (sym c.check_open.ensures ∙ c.in-Ok.is) in
     omega (arith, s.long, s.few)
 
-pub returns-in-Refused : goal.returns-in-Refused
-returns-in-Refused c =
-    let e = sym c.check_open.ensures ∙ c.in-Refused.is in
-    (simp (e, c.new.ensures), simp e, simp e)
-
-pub returns-in-Clear : goal.returns-in-Clear
-returns-in-Clear c =
-    let e = sym c.check_open.ensures ∙ c.in-Clear.is in
-    (simp (e, c.new-in-Clear.ensures), simp e, c.fill.ensures ∙ idle_opened _ _ (open_clear _ _ e).long ∙ sym (simp e))
+pub returns-in-Ok : goal.returns-in-Ok
+returns-in-Ok c =
+    let e = sym c.check_open.ensures ∙ c.in-Ok.is in
+    (simp (e, c.new-in-Ok.ensures), simp e, c.fill.ensures ∙ idle_opened _ _ (open_clear _ _ e).long ∙ sym (simp e))

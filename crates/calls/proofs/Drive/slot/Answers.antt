@@ -2,21 +2,21 @@
 use Rattle.std.proofs.Common.{◌≡◌, sym, ◌∙◌, arith, ◌≤◌, ◌<◌, length}
 use Rattle.sequences.proofs.Laws.{leaf_below_lem, passed_one, next_position, position_small}
 use Rattle.calls.specs.Refusals.{slot_check}
-use Rattle.calls.specs.declared.Check.TheVariants.{Clear}
+use Rattle.std.specs.Prelude.{Ok}
 use Rattle.calls.proofs.Checking.{slot_sized, slot_position}
 use Rattle.calls.proofs.Drive.slot.Goals as goal
-use Rattle.calls.proofs.Drive.slot.Goals.{After-pick-s, In-Clear}
+use Rattle.calls.proofs.Drive.slot.Goals.{After-pick-s, In-Ok}
 
 -- no refusal applies
-clear : (c : In-Clear) → slot_check c.args.self c.args.board.now ≡ Clear
-clear c = sym c.check_slot.ensures ∙ c.in-Clear.is
+clear : (c : In-Ok) → slot_check c.args.self c.args.board.now ≡ (Ok tt)
+clear c = sym c.check_slot.ensures ∙ c.in-Ok.is
 
 -- what pick gives is on the board, and fits
 small : (c : After-pick-s)
     → (c.pick-s.result.leaf < length c.args.board.now)
     × (c.pick-s.result.leaf ≤ 4095) × (c.pick-s.result.passed ≤ 1) × (c.pick-s.result.next ≤ 4095)
 small c =
-    let e = (sym c.check_slot.ensures ∙ c.in-Clear.is) in
+    let e = (sym c.check_slot.ensures ∙ c.in-Ok.is) in
     let z = slot_sized _ _ e in
     let at = slot_position _ _ e in
     let l = leaf_below_lem _ _ at in
@@ -25,7 +25,7 @@ small c =
     rw c.pick-s.ensures (omega arith)
 
 pub pick-s-requires : goal.pick-s-requires
-pick-s-requires c = slot_position _ _ (clear (goal.at.pick-s-requires c).In-Clear)
+pick-s-requires c = slot_position _ _ (clear (goal.at.pick-s-requires c).In-Ok)
 
 pub overflow_cast-s : goal.overflow_cast-s
 overflow_cast-s c = let s = small (goal.at.overflow_cast-s c).After-pick-s in omega arith
@@ -39,15 +39,5 @@ bounds-board-leaf c = let s = small (goal.at.bounds-board-leaf c).After-pick-s i
 pub overflow_cast-result : goal.overflow_cast-result
 overflow_cast-result c = let s = small (goal.at.overflow_cast-result c).After-pick-s in omega arith
 
-pub overflow_cast-result-in-Clear : goal.overflow_cast-result-in-Clear
-overflow_cast-result-in-Clear c = let s = small (goal.at.overflow_cast-result-in-Clear c).After-pick-s in omega arith
-
-pub returns-in-Refused : goal.returns-in-Refused
-returns-in-Refused c =
-    let e = sym c.check_slot.ensures ∙ c.in-Refused.is in
-    (simp e, simp e)
-
-pub returns-in-Clear : goal.returns-in-Clear
-returns-in-Clear c =
-    let e = clear (goal.at.returns-in-Clear c).In-Clear in
-    (simp (e, c.moved-next.ensures, c.pick-s.ensures), simp (e, c.pick-s.ensures))
+pub overflow_cast-result-in-Ok : goal.overflow_cast-result-in-Ok
+overflow_cast-result-in-Ok c = let s = small (goal.at.overflow_cast-result-in-Ok c).After-pick-s in omega arith

@@ -1,34 +1,49 @@
 -- `lines::reading::number` meets its contract. Assumes nothing.
-use Rattle.std.proofs.Common.{sym, ◌∙◌, add-one, arith}
-use Rattle.lines.proofs.Spelling.{numeral_empty, numeral_long, numeral_read, read_low, read_high, read_more, read_over, read_end}
+use Rattle.std.proofs.Common.{◌≡◌, ◌+◌, ◌-◌, ◌*◌, true, None, sym, ◌∙◌, add-one, arith, get_or}
+use Rattle.lines.specs.Grammar.{is_digit}
+use Rattle.lines.proofs.Spelling.{numeral_empty, numeral_long, numeral_read, read_stop, read_more, read_over, read_end}
 use Rattle.lines.proofs.reading.number.Goals as goal
+use Rattle.lines.proofs.reading.number.Goals.{then-is_empty-via-then-is_empty, then-is_empty-via-else-is_empty+then-most-word}
 
-pub returns-then-word-eq0 : goal.returns-then-word-eq0
-returns-then-word-eq0 c = sym (numeral_empty _ _ _ c.if-word-eq0.true)
+pub returns-then-is_empty : goal.returns-then-is_empty
+returns-then-is_empty c = elim c.then-is_empty.branch [
+  | then-is_empty-via-then-is_empty w ↦ sym (numeral_empty _ _ _ (grind arith))
+  | then-is_empty-via-else-is_empty+then-most-word w ↦ sym (numeral_long _ _ _ w.if-most-word.true)
+]
 
-pub returns-then-most-word : goal.returns-then-most-word
-returns-then-most-word c = sym (numeral_long _ _ _ c.if-most-word.true)
+pub loop-b-init : goal.loop-b-init
+loop-b-init c = (omega arith, numeral_read _ _ _ (grind arith) c.if-most-word.false)
 
-pub loop-i-init : goal.loop-i-init
-loop-i-init c = (omega arith, omega arith, numeral_read _ _ _ c.if-word-eq0.false c.if-most-word.false)
+pub returns-then-not-is_ascii_digit : goal.returns-then-not-is_ascii_digit
+unfolding is_digit
+returns-then-not-is_ascii_digit c = let a = c.args in let l = c.loop-b in sym (l.invariant.1 ∙ read_stop a.limit l.value a.word.now l.b-index (omega arith) (grind arith))
 
-pub overflow_cast-b : goal.overflow_cast-b
-overflow_cast-b c = omega (arith, c.type_inv.word c.loop-i.i)
+pub returns-in_err-checked_mul : goal.returns-in_err-checked_mul
+unfolding is_digit
+returns-in_err-checked_mul c = let a = c.args in let l = c.loop-b in
+    let r : c.from_residual.result ≡ None = grind arith in
+    let m : is_digit (get_or a.word.now l.b-index 0) ≡ true = grind arith in
+    rw r (sym (l.invariant.1 ∙ read_more a.limit l.value a.word.now l.b-index (omega arith) m ∙ read_over _ _ _ (grind arith)))
 
-pub returns-then-b-lt48 : goal.returns-then-b-lt48
-returns-then-b-lt48 c = let a = c.args in let l = c.loop-i in sym (l.invariant.2 ∙ read_low a.limit l.value a.word.now l.i (omega arith) c.if-b-lt48.true)
+pub returns-in_err-value : goal.returns-in_err-value
+unfolding is_digit
+returns-in_err-value c = let a = c.args in let l = c.loop-b in
+    let r : c.from_residual-in_err-value.result ≡ None = grind arith in
+    let m : is_digit (get_or a.word.now l.b-index 0) ≡ true = grind arith in
+    rw r (sym (l.invariant.1 ∙ read_more a.limit l.value a.word.now l.b-index (omega arith) m ∙ read_over _ _ _ (grind arith)))
 
-pub returns-then-b-gt57 : goal.returns-then-b-gt57
-returns-then-b-gt57 c = let a = c.args in let l = c.loop-i in sym (l.invariant.2 ∙ read_high a.limit l.value a.word.now l.i (omega arith) c.if-b-gt57.true)
+pub returns-then-limit-value : goal.returns-then-limit-value
+unfolding is_digit
+returns-then-limit-value c = let a = c.args in let l = c.loop-b in
+    let m : is_digit (get_or a.word.now l.b-index 0) ≡ true = grind arith in
+    sym (l.invariant.1 ∙ read_more a.limit l.value a.word.now l.b-index (omega arith) m ∙ read_over _ _ _ (grind arith))
 
-pub returns-then-limit-d : goal.returns-then-limit-d
-returns-then-limit-d c = let a = c.args in let l = c.loop-i in sym (l.invariant.2 ∙ read_more a.limit l.value a.word.now l.i (omega arith) c.if-b-lt48.false c.if-b-gt57.false ∙ read_over _ _ _ (omega arith))
-
-pub returns-then-limit-d-2 : goal.returns-then-limit-d-2
-returns-then-limit-d-2 c = let a = c.args in let l = c.loop-i in sym (l.invariant.2 ∙ read_more a.limit l.value a.word.now l.i (omega arith) c.if-b-lt48.false c.if-b-gt57.false ∙ read_over _ _ _ (omega arith))
-
-pub loop-i-preserved : goal.loop-i-preserved
-loop-i-preserved c = let a = c.args in let l = c.loop-i in (omega arith, omega arith, rw add-one (l.invariant.2 ∙ read_more a.limit l.value a.word.now l.i (omega arith) c.if-b-lt48.false c.if-b-gt57.false))
+pub loop-b-preserved : goal.loop-b-preserved
+unfolding is_digit
+loop-b-preserved c = let a = c.args in let l = c.loop-b in
+    let m : is_digit (get_or a.word.now l.b-index 0) ≡ true = grind arith in
+    let e : c.in_ok-value.value ≡ l.value * 10 + (get_or a.word.now l.b-index 0 - 48) = grind arith in
+    (omega arith, rw (add-one, e) (l.invariant.1 ∙ read_more a.limit l.value a.word.now l.b-index (omega arith) m))
 
 pub returns : goal.returns
-returns c = let a = c.args in let l = c.loop-i in sym (l.invariant.2 ∙ read_end a.limit l.value a.word.now l.i (omega arith) (omega arith))
+returns c = let a = c.args in let l = c.loop-b in sym (l.invariant.1 ∙ read_end a.limit l.value a.word.now l.b-index (omega arith) (omega arith))

@@ -1,12 +1,9 @@
 -- The loop of `lines::reading::number` keeps: the word is the number that its digits so far and what is left of it give; the value stays within the limit.
 -- Assumes nothing.
-use Rattle.std.proofs.Common.{◌≡◌, ◌-◌, ◌≤◌, length, drop}
+use Rattle.std.proofs.Common.{◌≡◌, ◌≤◌, drop}
 use Rattle.lines.specs.Grammar.{numeral}
 use Rattle.lines.proofs.Spelling.{read_on}
 use Rattle.lines.proofs.reading.number.Given as goal
 
-abbrev pub invariant-loop-i : goal.invariant-loop-i
-invariant-loop-i l = (l.i ≤ length l.word) × (l.value ≤ l.limit) × (numeral l.most l.limit l.word ≡ read_on l.limit l.value (drop l.i l.word))
-
-abbrev pub decreases-loop-i : goal.decreases-loop-i
-decreases-loop-i l = length l.word - l.i
+abbrev pub invariant-loop-b : goal.invariant-loop-b
+invariant-loop-b l = (l.value ≤ l.limit) × (numeral l.most l.limit l.word ≡ read_on l.limit l.value (drop l.b-index l.word))

@@ -1,27 +1,19 @@
 -- `lines::reading::with_two` meets its contract. Assumes nothing.
-use Rattle.std.proofs.Common.{sym, ◌∙◌, arith}
-use Rattle.lines.specs.Grammar.{with_two}
-use Rattle.lines.proofs.Spelling.{numeral_limit}
+use Rattle.std.proofs.Common.{sym, ◌∙◌}
+use Rattle.lines.specs.Grammar.{add_word, short_number, with_two}
+use Rattle.lines.proofs.Words.{found_same, two_none, two_other}
 use Rattle.lines.proofs.reading.with_two.Goals as goal
 
-pub overflow_cast-result : goal.overflow_cast-result
-overflow_cast-result c = omega (arith, numeral_limit 5 65535 c.args.first.now c.in-Value.x (sym c.number.ensures ∙ c.in-Value.is))
-
-pub overflow_cast-result-then-same : goal.overflow_cast-result-then-same
-overflow_cast-result-then-same c = omega (arith, numeral_limit 5 65535 c.args.second.now c.in-Value-number.y (sym c.number-in-Value.ensures ∙ c.in-Value-number.is))
-
-pub returns-then-same : goal.returns-then-same
+pub returns-in_err-short_number : goal.returns-in_err-short_number
 unfolding with_two
-returns-then-same c = simp (sym c.number.ensures ∙ c.in-Value.is, sym c.number-in-Value.ensures ∙ c.in-Value-number.is, sym c.same.ensures ∙ c.if-same.true)
+returns-in_err-short_number c = simp (c.from_residual.ensures, sym c.in_err-short_number.ensures)
 
-pub returns-in-Nothing : goal.returns-in-Nothing
-unfolding with_two
-returns-in-Nothing c = simp (sym c.number.ensures ∙ c.in-Nothing.is)
+pub returns-in_err-short_number-2 : goal.returns-in_err-short_number-2
+returns-in_err-short_number-2 c = rw (c.from_residual-in_err-short_number-2.ensures, ← c.in_err-short_number-2.ensures) (sym (two_none c.args.word.now (short_number c.args.first.now)))
 
-pub returns-in-Nothing-number : goal.returns-in-Nothing-number
+pub returns-in_ok-short_number-2 : goal.returns-in_ok-short_number-2
 unfolding with_two
-returns-in-Nothing-number c = simp (sym c.number.ensures ∙ c.in-Value.is, sym c.number-in-Value.ensures ∙ c.in-Nothing-number.is)
+returns-in_ok-short_number-2 c = simp (sym c.short_number.ensures ∙ c.in_ok-short_number.was, sym c.short_number-then-eq.ensures ∙ c.in_ok-short_number-2.was, found_same c.args.word.now add_word c.eq.ensures c.if-eq.true)
 
-pub returns-else-same : goal.returns-else-same
-unfolding with_two
-returns-else-same c = simp (sym c.number.ensures ∙ c.in-Value.is, sym c.number-in-Value.ensures ∙ c.in-Value-number.is, sym c.same.ensures ∙ c.if-same.false)
+pub returns-else-eq : goal.returns-else-eq
+returns-else-eq c = sym (two_other c.args.word.now (short_number c.args.first.now) (short_number c.args.second.now) (found_same c.args.word.now add_word c.eq.ensures c.if-eq.false))

@@ -11,7 +11,7 @@ pub returns-then-is_run : goal.returns-then-is_run
 returns-then-is_run c = scanned_run _ _ _ _ _ _ _ _ (sym c.is_run.ensures ∙ c.if-is_run.true) (omega arith) c.note.ensures
 
 pub returns-then-scan_two : goal.returns-then-scan_two
-returns-then-scan_two c = scanned_low _ _ _ _ _ refl (sym c.is_run.ensures ∙ c.if-is_run.false) _ _ (rw c.if-scan_two.true at c.scan_two.ensures)
+returns-then-scan_two c = rw c.if-scan_two.true (scanned_low _ _ _ _ _ refl (sym c.is_run.ensures ∙ c.if-is_run.false) _ _ (rw c.if-scan_two.true at c.scan_two.ensures))
 
-pub returns : goal.returns
-returns c = scanned_both _ _ _ _ _ refl (sym c.is_run.ensures ∙ c.if-is_run.false) _ _ _ _ (rw c.if-scan_two.false at c.scan_two.ensures) c.scan_two-2.ensures
+pub returns-else-scan_two : goal.returns-else-scan_two
+returns-else-scan_two c = scanned_both _ _ _ _ _ refl (sym c.is_run.ensures ∙ c.if-is_run.false) _ _ _ _ (rw c.if-scan_two.false at c.scan_two.ensures) c.scan_two-else-scan_two.ensures

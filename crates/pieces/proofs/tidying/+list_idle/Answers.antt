@@ -7,23 +7,14 @@ use Rattle.pieces.proofs.tidying.+list_idle.Goals as goal
 pub returns-then-c-a : goal.returns-then-c-a
 returns-then-c-a t c = listed_past _ _ _ _ _ c.if-c-a.true
 
-pub is_idle_leaf-requires : goal.is_idle_leaf-requires
-is_idle_leaf-requires t c = rw (← c.if-l-eq0.true) c.requires.0
-
 pub returns-then-l-eq0 : goal.returns-then-l-eq0
 returns-then-l-eq0 t c = rw c.if-l-eq0.true (c.is_idle_leaf.ensures _)
-
-pub idle_leaves-requires : goal.idle_leaves-requires
-idle_leaves-requires t c = c.requires.0
 
 pub returns-in-None : goal.returns-in-None
 returns-in-None t c = listed_none _ _ _ _ _ (rw c.in-None.is at c.idle_leaves.ensures)
 
 pub returns-in-All : goal.returns-in-All
 returns-in-All t c = listed_run _ _ _ _ _ (rw c.in-All.is at c.idle_leaves.ensures)
-
-pub overflow_add-m : goal.overflow_add-m
-overflow_add-m t c = omega (arith, pow_half c.args.l (λ e. omega arith))
 
 pub list_idle-g-requires : goal.list_idle-g-requires
 list_idle-g-requires t c = omega (arith, pow_half c.args.l (λ e. omega arith))

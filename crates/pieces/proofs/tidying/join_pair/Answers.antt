@@ -10,7 +10,7 @@ pub twin-t-requires : goal.twin-t-requires
 twin-t-requires c = omega (arith, pair_size _ _ _ _ _ c.requires.2, pair_ends _ _ _ _ _ c.requires.2)
 
 pub overflow_add-t : goal.overflow_add-t
-overflow_add-t c = omega (arith, pair_size _ _ _ _ _ c.requires.2, pair_ends _ _ _ _ _ c.requires.2, twin_le c.args.v c.args.e, c.twin-t.ensures, c.size_of-z.ensures)
+overflow_add-t c = omega (arith, pair_size _ _ _ _ _ c.requires.2, pair_ends _ _ _ _ _ c.requires.2, twin_le c.args.p.second c.args.p.exponent, c.twin-t.ensures, c.size_of-z.ensures)
 
 pub move_run-requires : goal.move_run-requires
 move_run-requires c = rw (c.twin-t.ensures, c.size_of-z.ensures) (apart_second _ _ _ _ _ c.requires.2 c.requires.1 c.requires.0 (omega (arith, c.if-t-z.true, c.twin-t.ensures, c.size_of-z.ensures)))
@@ -23,8 +23,8 @@ move_run-requires-else-t-z c = rw (c.twin.ensures, c.size_of-z.ensures) (apart_f
 
 pub returns-then-t-z : goal.returns-then-t-z
 unfolding tidying.join
-returns-then-t-z c = c.move_run.ensures ∙ simp (c.twin-t.ensures, c.size_of-z.ensures, le-leb (tidying.twin c.args.v c.args.e + 2 ^ c.args.e) c.args.c (omega (arith, c.if-t-z.true, c.twin-t.ensures, c.size_of-z.ensures)))
+returns-then-t-z c = c.move_run.ensures ∙ simp (c.twin-t.ensures, c.size_of-z.ensures, le-leb (tidying.twin c.args.p.second c.args.p.exponent + 2 ^ c.args.p.exponent) c.args.c (omega (arith, c.if-t-z.true, c.twin-t.ensures, c.size_of-z.ensures)))
 
 pub returns-else-t-z : goal.returns-else-t-z
 unfolding tidying.join
-returns-else-t-z c = c.move_run-else-t-z.ensures ∙ simp (c.twin.ensures, c.size_of-z.ensures, lt-leb (tidying.twin c.args.v c.args.e + 2 ^ c.args.e) c.args.c (omega (arith, c.if-t-z.false, c.twin-t.ensures, c.size_of-z.ensures)))
+returns-else-t-z c = c.move_run-else-t-z.ensures ∙ simp (c.twin.ensures, c.size_of-z.ensures, lt-leb (tidying.twin c.args.p.second c.args.p.exponent + 2 ^ c.args.p.exponent) c.args.c (omega (arith, c.if-t-z.false, c.twin-t.ensures, c.size_of-z.ensures)))

@@ -5,18 +5,12 @@ use Rattle.pieces.proofs.Tidied.{tidy_next, tidy_end}
 use Rattle.pieces.specs.Tidying as tidying
 use Rattle.pieces.proofs.tidying.tidy.Goals as goal
 
-pub loop-steps-init : goal.loop-steps-init
+pub loop-step-init : goal.loop-step-init
 unfolding tidying.tidy
-loop-steps-init c = (omega arith, refl, refl)
+loop-step-init c = refl
 
-pub returns-in-Unpaired : goal.returns-in-Unpaired
-returns-in-Unpaired c = c.loop-steps.invariant.2 ∙ sym (tidy_end _ _ _ (omega arith) (rw (c.in-Unpaired.is, c.loop-steps.invariant.2) at c.find_pair.ensures))
+pub returns-in-None : goal.returns-in-None
+returns-in-None c = c.loop-step.invariant ∙ sym (tidy_end _ _ _ (omega arith) (rw (c.in-None.is, c.loop-step.invariant) at c.find_pair.ensures))
 
-pub join_pair-requires : goal.join_pair-requires
-join_pair-requires c = (omega arith, omega arith, rw c.in-Two.is at c.find_pair.ensures)
-
-pub loop-steps-preserved : goal.loop-steps-preserved
-loop-steps-preserved c = (omega arith, omega arith, c.join_pair.ensures ∙ join_step _ _ _ _ _ (rw c.in-Two.is at c.find_pair.ensures) ∙ ap (λ (L : List ℕ). tidying.step c.args.c L) c.loop-steps.invariant.2 ∙ sym (tidy_next _ _ _))
-
-pub returns : goal.returns
-returns c = c.loop-steps.invariant.2 ∙ ap (λ (k : ℕ). tidying.tidy c.args.c c.args.board.now k) (omega arith)
+pub loop-step-preserved : goal.loop-step-preserved
+loop-step-preserved c = c.join_pair.ensures ∙ join_step _ _ _ _ _ (rw c.in-Some.is at c.find_pair.ensures) ∙ ap (λ (L : List ℕ). tidying.step c.args.c L) c.loop-step.invariant ∙ sym (tidy_next _ _ _)

@@ -4,15 +4,10 @@ use Rattle.share_boards.proofs.Openings.{opening_ready, open_done}
 use Rattle.share_boards.proofs.opening.open.Goals as goal
 
 pub clear_tables-requires : goal.clear_tables-requires
-clear_tables-requires c = opening_ready _ _ _ (sym c.check_open.ensures ∙ c.in-Clear.is)
+clear_tables-requires c = opening_ready _ _ _ (sym c.check_open.ensures ∙ c.in-Ok.is)
 
-pub returns-in-Refused : goal.returns-in-Refused
-returns-in-Refused c =
-    let e = sym c.check_open.ensures ∙ c.in-Refused.is in
-    (simp (e, c.new.ensures), simp e, simp e, simp e)
-
-pub returns-in-Clear : goal.returns-in-Clear
-returns-in-Clear c =
-    let e = sym c.check_open.ensures ∙ c.in-Clear.is in
+pub returns-in-Ok : goal.returns-in-Ok
+returns-in-Ok c =
+    let e = sym c.check_open.ensures ∙ c.in-Ok.is in
     let k = c.clear_tables.ensures in
     open_done _ _ c.args.list.now e c.«open».ensures k.0 k.1 k.2

@@ -5,14 +5,14 @@ use Rattle.share_boards.proofs.Openings.{reading_refused, read_within, read_take
 use Rattle.share_boards.proofs.opening.read_pieces.Goals as goal
 
 pub clear_after-requires : goal.clear_after-requires
-clear_after-requires c = read_within piece_form _ _ _ _ _ c.args.list.now (sym c.check_head.ensures ∙ c.in-Clear.is) c.read_pieces-loaded.ensures
+clear_after-requires c = read_within piece_form _ _ _ _ _ c.args.list.now (sym c.check_head.ensures ∙ c.in-Ok.is) c.read_pieces.ensures
 
-pub returns-in-Refused : goal.returns-in-Refused
-returns-in-Refused c =
-    let e = reading_refused piece_form _ _ _ _ (sym c.check_head.ensures ∙ c.in-Refused.is) in
+pub returns-in-Err : goal.returns-in-Err
+returns-in-Err c =
+    let e = reading_refused piece_form _ _ _ _ (sym c.check_head.ensures ∙ c.in-Err.is) in
     (simp (e, c.new.ensures), simp e, simp e, simp e)
 
-pub returns-in-Clear : goal.returns-in-Clear
-returns-in-Clear c =
+pub returns-in-Ok : goal.returns-in-Ok
+returns-in-Ok c =
     let k = c.clear_after.ensures in
-    read_takes piece_form _ _ _ _ _ c.args.list.now (sym c.check_head.ensures ∙ c.in-Clear.is) c.read_pieces-loaded.ensures k.0 k.1 k.2 k.3
+    read_takes piece_form _ _ _ _ _ c.args.list.now (sym c.check_head.ensures ∙ c.in-Ok.is) c.read_pieces.ensures k.0 k.1 k.2 k.3

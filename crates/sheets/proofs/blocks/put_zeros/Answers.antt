@@ -1,19 +1,13 @@
 -- `put_zeros` meets its contract. Assumes nothing.
-use Rattle.std.proofs.Common.{◌≡◌, refl, arith}
-use Rattle.sheets.proofs.Stores.{zeros_none, zeros_more}
+use Rattle.std.proofs.Common.{◌≡◌, refl, ◌∙◌, ◌+◌, ◌-◌, ◌*◌, length, take, drop, replicate, length-take-le, arith}
+use Rattle.std.proofs.lemmas.List.{length-drop}
+use Rattle.sheets.proofs.Stores.{zeros_fill}
 use Rattle.sheets.proofs.blocks.put_zeros.Goals as goal
-
-pub loop-i-init : goal.loop-i-init
-loop-i-init c = (omega arith, refl, zeros_none _ _)
-
-pub loop-i-preserved : goal.loop-i-preserved
-loop-i-preserved c = (
-  omega arith,
-  omega (arith, c.put_number.auto.sheet),
-  zeros_more _ _ _ _ _ c.loop-i.invariant.2 c.put_number.ensures,
-)
 
 pub returns : goal.returns
 returns c =
-    let e : c.args.n ≡ c.loop-i.i = omega arith in
-    rw e c.loop-i.invariant.2
+    let a = c.args in
+    let k : 2 * (a.a + a.n) - 2 * a.a ≡ 2 * a.n = omega arith in
+    let m : length (take (2 * a.n) (drop (2 * a.a) a.sheet.now)) ≡ 2 * a.n = length-take-le _ _ (omega (arith, length-drop (2 * a.a) a.sheet.now)) in
+    let e : c.fill.new.self ≡ replicate (2 * a.n) 0 = c.fill.ensures.after (λ y same. same) ∙ rw (k, m) refl in
+    rw (k, e) (zeros_fill a.sheet.now a.a a.n c.requires)

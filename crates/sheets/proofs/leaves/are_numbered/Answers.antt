@@ -1,23 +1,13 @@
 -- `are_numbered` meets its contract. Assumes nothing.
-use Rattle.std.proofs.Common.{◌≡◌, refl, sym, ◌∙◌, add-one, arith}
-use Rattle.general.specs.Tests.{every}
-use Rattle.general.proofs.Laws.{every_more, every_fails}
+use Rattle.std.proofs.Common.{refl, ◌∙◌, arith, rules, tests}
+use Rattle.std.proofs.lemmas.Iterator.{YieldsList-from_range}
+use Rattle.std.proofs.lemmas.Iterator.Search.{all_from_yields_List}
 use Rattle.sheets.specs.Sheet.{numbered}
+use Rattle.sheets.proofs.Layouts.{all_every}
 use Rattle.sheets.proofs.leaves.are_numbered.Goals as goal
 
-pub loop-b-init : goal.loop-b-init
-unfolding every
-loop-b-init c = (omega arith, refl)
-
-pub loop-b-preserved : goal.loop-b-preserved
-unfolding numbered
-loop-b-preserved c =
-    let i = c.loop-b.b in
-    (omega arith, rw (add-one i) (every_more _ i c.loop-b.invariant.1 (sym c.is_sealed.ensures ∙ c.if-is_sealed.true)))
-
-pub returns-else-is_sealed : goal.returns-else-is_sealed
-unfolding numbered
-returns-else-is_sealed c = sym (every_fails _ _ c.loop-b.b c.loop-b-test.true (sym c.is_sealed.ensures ∙ c.if-is_sealed.false))
-
 pub returns : goal.returns
-returns c = let all : c.loop-b.b ≡ c.args.n = omega arith in sym (rw all at c.loop-b.invariant.1)
+unfolding numbered
+returns c =
+    let a = c.args in
+    all_from_yields_List (numbered a.sheet.now a.c) _ _ c.all.result c.all.ensures.ran (YieldsList-from_range 0 a.n a.n refl (omega arith)) (λ x b q h. search (rules, tests)) ∙ all_every (numbered a.sheet.now a.c) a.n

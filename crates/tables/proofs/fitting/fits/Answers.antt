@@ -1,5 +1,5 @@
 -- `tables::fitting::fits` meets its contract. Assumes nothing.
-use Rattle.std.proofs.Common.{refl, sym, ◌∙◌, arith}
+use Rattle.std.proofs.Common.{refl, arith}
 use Rattle.names.proofs.Laws.{blank_empty}
 use Rattle.tables.proofs.Entries.{fits_two}
 use Rattle.tables.proofs.fitting.fits.Goals as goal
@@ -7,31 +7,8 @@ use Rattle.tables.proofs.fitting.fits.Goals as goal
 pub weights-requires : goal.weights-requires
 weights-requires c = (omega arith, omega arith, rw c.empty-sizes.ensures (blank_empty 12290 refl))
 
-pub returns-then-not-weights : goal.returns-then-not-weights
-returns-then-not-weights c = rw (fits_two _ _ _ _ _, sym c.weights.ensures.test ∙ c.if-not-weights.true) refl
+pub returns-then-owed_fit : goal.returns-then-owed_fit
+returns-then-owed_fit c = let f = fits_two c.args.c c.args.board.now c.args.rates.now c.args.owed.now c.args.owed_other.now in grind arith
 
-pub rates_fit-requires : goal.rates_fit-requires
-rates_fit-requires c =
-    let t = c.if-not-weights.false in
-    let w = c.weights.ensures in
-    (omega arith, omega arith, omega arith, w.table, sym w.test ∙ t, w.weights t)
-
-pub returns-then-not-rates_fit : goal.returns-then-not-rates_fit
-returns-then-not-rates_fit c =
-    rw (fits_two _ _ _ _ _, sym c.weights.ensures.test ∙ c.if-not-weights.false, sym c.rates_fit.ensures ∙ c.if-not-rates_fit.true) refl
-
-pub returns-then-not-owed_fit : goal.returns-then-not-owed_fit
-returns-then-not-owed_fit c = rw (
-  fits_two _ _ _ _ _,
-  sym c.weights.ensures.test ∙ c.if-not-weights.false,
-  sym c.rates_fit.ensures ∙ c.if-not-rates_fit.false,
-  sym c.owed_fit.ensures ∙ c.if-not-owed_fit.true,
-) refl
-
-pub returns : goal.returns
-returns c = rw (
-  fits_two _ _ _ _ _,
-  sym c.weights.ensures.test ∙ c.if-not-weights.false,
-  sym c.rates_fit.ensures ∙ c.if-not-rates_fit.false,
-  sym c.owed_fit.ensures ∙ c.if-not-owed_fit.false,
-) c.owed_fit-2.ensures
+pub returns-else-owed_fit : goal.returns-else-owed_fit
+returns-else-owed_fit c = let f = fits_two c.args.c c.args.board.now c.args.rates.now c.args.owed.now c.args.owed_other.now in grind arith

@@ -1,7 +1,7 @@
 -- `tables::settling::take_mark` meets its contract. Assumes nothing.
 use Rattle.std.proofs.Common.{◌≡◌, sym, subst, ◌∙◌, ℕ, arith}
 use Rattle.names.specs.Table.{Entered, number_under}
-use Rattle.names.proofs.Laws.{number_small, number_none, entered_same}
+use Rattle.names.proofs.Laws.{number_small, number_none, found_none, entered_same}
 use Rattle.tables.proofs.settling.take_mark.Goals as goal
 
 pub overflow_cast-m : goal.overflow_cast-m
@@ -16,7 +16,7 @@ returns-then-m-eq0 c =
 pub enter-requires : goal.enter-requires
 enter-requires c =
     let f = c.find-mark.ensures in
-    (c.requires.0, omega arith, c.requires.1, f.row, λ z. absurd (c.if-m-eq0.false (f.number ∙ number_none c.args.marks.now c.requires.1 c.args.x (sym f.row ∙ z))))
+    (c.requires.0, omega arith, c.requires.1, f.row, λ z. absurd (c.if-m-eq0.false (f.number ∙ number_none c.args.marks.now c.requires.1 c.args.x (found_none c.args.marks.now c.args.x (sym z ∙ f.row)))))
 
 pub returns : goal.returns
 returns c = (c.find-mark.ensures.number, c.enter.ensures)

@@ -1,7 +1,6 @@
 -- `tables::turns::spacing` meets its contract. Assumes nothing.
 use Rattle.std.proofs.Common.{rules, ◌≡◌, sym, ap, subst, ◌∙◌, List, ℕ, ◌≤◌, ◌<◌, arith, eqb, length, take}
 use Rattle.sequences.specs.Serving.{count_list}
-use Rattle.calls.specs.Spacing.{spacing_in}
 use Rattle.tables.proofs.Turning.{round_length}
 use Rattle.tables.proofs.Serves.{round_serves_lem, served_some}
 use Rattle.tables.proofs.Spaced.{taken_written}
@@ -12,7 +11,7 @@ use Rattle.tables.proofs.turns.spacing.Goals.{After-write_round}
 -- the names of the round stand at the start
 long : (c : After-write_round) → c.args.c ≤ length c.write_round.new.output
 long c =
-    let l : c.args.c ≤ length c.no_entries-names.result = search rules in
+    let l : c.args.c ≤ length c.zeros-names.result = search rules in
     omega (arith, c.write_round.auto)
 
 taken : (c : After-write_round)
@@ -20,7 +19,7 @@ taken : (c : After-write_round)
 taken c =
     let a = c.args in
     ap (take a.c) c.write_round.ensures
-    ∙ taken_written a.c (turning.round_serves a.c a.board.now a.rates.now) c.no_entries-names.result (round_length a.c a.board.now a.rates.now)
+    ∙ taken_written a.c (turning.round_serves a.c a.board.now a.rates.now) c.zeros-names.result (round_length a.c a.board.now a.rates.now)
 
 -- the name is one of them
 some : (c : After-write_round)
@@ -34,6 +33,3 @@ some c =
 pub spacing_of-requires : goal.spacing_of-requires
 spacing_of-requires c =
     (long (goal.at.spacing_of-requires c).After-write_round, c.requires.1.few, subst (λ (N : List ℕ). 0 < count_list (λ y. eqb y c.args.name) N) (sym (taken (goal.at.spacing_of-requires c).After-write_round)) (some (goal.at.spacing_of-requires c).After-write_round))
-
-pub returns : goal.returns
-returns c = c.spacing_of.ensures ∙ ap (spacing_in c.args.name) (taken (goal.at.returns c).After-write_round)

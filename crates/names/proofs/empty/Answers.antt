@@ -1,8 +1,0 @@
--- `names::empty` meets its contract. Assumes nothing.
-use Rattle.std.proofs.Common.{refl}
-use Rattle.general.specs.Lists.{blank}
-use Rattle.names.proofs.empty.Goals as goal
-
-pub returns : goal.returns
-unfolding blank
-returns c = refl

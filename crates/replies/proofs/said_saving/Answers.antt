@@ -1,8 +1,0 @@
--- `said_saving` meets its contract. Assumes nothing.
-use Rattle.replies.proofs.said_saving.Goals as goal
-
-pub returns-in-Done : goal.returns-in-Done
-returns-in-Done c = simp (c.said_done.ensures, c.in-Done.is)
-
-pub returns-in-Refused : goal.returns-in-Refused
-returns-in-Refused c = simp (c.said_refused.ensures, c.in-Refused.is)

@@ -1,9 +1,0 @@
--- `share_batch::carry_entry` meets its contract. Assumes nothing.
-use Rattle.share_batch.specs.Entries.{carried}
-use Rattle.share_batch.proofs.carry_entry.Goals as goal
-
-pub returns : goal.returns
-unfolding carried
-returns c =
-    let p = c.order-ordered.ensures in
-    (simp (c.note.ensures, p.0), p.1, p.2)

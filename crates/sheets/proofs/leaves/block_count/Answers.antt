@@ -1,8 +1,0 @@
--- `block_count` meets its contract. Assumes nothing.
-use Rattle.std.proofs.Common.{refl}
-use Rattle.sheets.specs.Sheet.{blocks}
-use Rattle.sheets.proofs.leaves.block_count.Goals as goal
-
-pub returns : goal.returns
-unfolding blocks
-returns c = refl

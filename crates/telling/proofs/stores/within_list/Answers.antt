@@ -1,6 +1,0 @@
--- `telling::stores::within_list` meets its contract. Assumes nothing.
-use Rattle.std.proofs.Common.{arith, length-take}
-use Rattle.telling.proofs.stores.within_list.Goals as goal
-
-pub returns : goal.returns
-returns c = simp length-take (omega (arith, c.least.ensures))
