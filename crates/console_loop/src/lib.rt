@@ -14,18 +14,11 @@ use lines::Session;
 use std::io::Read;
 use system::Stop;
 
-// Room for a block of input.
-fn input_room() -> [u8; 65536]
-    ensures { 65536 ≡ length result }
+// Room for N bytes.
+fn room<const N: usize>() -> [u8; N]
+    ensures { N ≡ length result }
 {
-    [0; 65536]
-}
-
-// Room for what is said of a block of input.
-fn large_room() -> [u8; 131072]
-    ensures { 131072 ≡ length result }
-{
-    [0; 131072]
+    [0; N]
 }
 
 // Hears a block of input to its end, and writes what is said of it.
@@ -111,8 +104,8 @@ fn talk(
 pub fn serve(rt: &(impl Input + Print + Eprint), board: &mut [u16], list: &mut [u64])
     ensures { LeftBySession board.old list.old board.new list.new }
 {
-    let mut input = input_room();
-    let mut out = large_room();
+    let mut input = room::<65536>();
+    let mut out = room::<131072>();
     if let Err(stop) = talk(rt, &mut input, board, list, &mut out) {
         system::tell(rt, stop);
     }

@@ -2,6 +2,8 @@
 // is the record of the drive that the call is for, and comes back; `other` is the other drive's, and is only looked at. Open, read and fetch are
 // those of one drive: their record is for both. The records are two parameters and no struct of both: a call gives back the one alone, and the next
 // call may be the other drive's.
+// `add`, `remove` and `slot` stand in `orders` and `shares` too: a trait for who calls made them longer, since each public call needs its line over the
+// generic one, and what they share, `take` and `serve` of `orders`, they share already.
 #![tactic(auto)]
 
 ghost use Rattle.std.specs.Prelude.{◌≡◌, ◌≤◌, ◌<◌};

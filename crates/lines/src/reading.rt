@@ -23,7 +23,7 @@ const MOST_DIGITS: usize = 5;
 // Tickets have 1 to 20 digits and are below 2^64.
 const MOST_TICKET_DIGITS: usize = 20;
 
-// The number that a word of at most `most` digits spells, if it is at most `limit`.
+// The number that a word of at most `most` digits spells, if it is at most `limit`. Digit by digit: std's `parse` takes a sign, and words of any length.
 fn number(word: &[u8], most: usize, limit: u64) -> Option<u64>
     ensures { result ≡ numeral most limit word.now }
 {

@@ -3,7 +3,6 @@
 ghost use Rattle.std.specs.Prelude.{◌≡◌, [], ◌≤◌, length};
 ghost use Rattle.calls.specs.Refusals.{number_of};
 ghost use Rattle.calls.specs.Results.{if_clear};
-ghost use Rattle.general.specs.Lists.{blank};
 ghost use Rattle.lines.specs.Printing.{line, unknown_line};
 ghost use Rattle.lines.specs.Replies.{reply_bytes, Written, Told, check_line, ordering_line, serving_line, round_line, outcome_line, fetching_line, reply_line, drive_after, board_after, list_after, Steps};
 
@@ -118,19 +117,12 @@ fn tell_served(served: Served, out: &mut [u8]) -> Stepped
     }
 }
 
-// Room for the names of a round.
-fn no_names() -> [u16; Drive::LARGEST]
-    ensures { result ≡ blank 4095 }
-{
-    [0u16; Drive::LARGEST]
-}
-
 // Writes a round and its line.
 fn tell_round(drive: Drive, board: &[u16], out: &mut [u8]) -> usize
     requires { reply_bytes ≤ length out.old }
     ensures { Written (round_line drive board.now) out.old result out.new }
 {
-    let mut names = no_names();
+    let mut names = names::zeros::<4095>();
     let rounded = drive.round(board, &mut names);
     match rounded.answer {
         Ok(()) => put_done(out, &names[..usize::from(drive.capacity)]),

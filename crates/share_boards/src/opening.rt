@@ -67,6 +67,7 @@ pub fn open(
         owed,
         owed_other,
     };
+    // A match, since a refusal gives a record too.
     match check_open(c, lent, list) {
         Err(r) => Returned {
             drive: Drive::new(0, 0),
@@ -111,6 +112,7 @@ pub fn read(
         owed,
         owed_other,
     };
+    // A match, since a refusal gives a record too.
     match check_head(sheet, lent, list) {
         Err(r) => Returned {
             drive: Drive::new(0, 0),
@@ -137,6 +139,7 @@ pub fn read_pieces(
         owed,
         owed_other,
     };
+    // A match, since a refusal gives a record too.
     match check_head(sheet, lent, list) {
         Err(r) => Returned {
             drive: Drive::new(0, 0),

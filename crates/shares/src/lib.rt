@@ -1,6 +1,8 @@
 // The calls that are lent the tables of over-allocated streams, for two drives on one board with one waiting list: add, over-allocated add, remove, slot. `own` is
 // the record of the drive that the call is for, and comes back; `other` is the other drive's, and is only looked at; `owed` and `owed_other` are their deficits. A
 // single drive gives its record in both places and lends a second table of deficits, which stays zero. Every call looks at the whole board and every table.
+// `add`, `remove` and `slot` stand in `orders` and `drives` too: what differs is what is lent, how it is tested and what a change does to it, and a trait of
+// these with its laws, under public calls that stay as they are, is longer.
 #![tactic(auto)]
 
 ghost use Rattle.std.specs.Prelude.{◌≡◌, ◌||◌, Ok, ◌≤◌, ltb, length};

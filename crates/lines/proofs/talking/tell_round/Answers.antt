@@ -10,7 +10,7 @@ is_named : (c : In-Ok) → Named c.args.drive c.args.board.now c.round-rounded.n
 is_named c =
     let a = c.args in
     let r = c.round-rounded in
-    let o = c.no_names-names in
+    let o = c.zeros-names in
     named a.drive a.board.now o.result r.new.output r.result o.ensures r.ensures.0 r.ensures.2 r.auto.output c.in-Ok.is
 
 pub slice_bounds-names-end : goal.slice_bounds-names-end
@@ -27,5 +27,5 @@ pub returns-in-Err : goal.returns-in-Err
 unfolding round_line
 returns-in-Err c = let a = c.args in
     let r = c.round-rounded in
-    let o = c.no_names-names in
+    let o = c.zeros-names in
     rw (sym (answer_is a.drive a.board.now o.result [] r.result o.ensures r.ensures.0) ∙ c.in-Err.is) c.tell_refusal.ensures
