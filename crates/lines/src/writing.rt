@@ -50,17 +50,17 @@ fn put_line(out: &mut [u8], number: u64, values: &[u16]) -> usize
     at + 1
 }
 
-// A reply of a number alone.
+// A reply of a number alone. It has at most twenty digits.
 pub fn put_alone(out: &mut [u8], number: u64) -> usize
-    requires { reply_bytes ≤ length out.old }
+    requires { 21 ≤ length out.old }
     ensures { Written (line number []) out.old result out.new }
 {
     put_line(out, number, &[])
 }
 
-// A reply of a number and one value: a ticket has 64 bits, and `put_line` takes entries of 16.
+// A reply of a number and one value, of at most twenty digits each: a ticket has 64 bits, and `put_line` takes entries of 16.
 pub fn put_value(out: &mut [u8], number: u64, value: u64) -> usize
-    requires { reply_bytes ≤ length out.old }
+    requires { 42 ≤ length out.old }
     ensures { Written (line number (value ∷ [])) out.old result out.new }
 {
     let mut at = put_number(out, number);
