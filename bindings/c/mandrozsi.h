@@ -38,9 +38,9 @@
  *     walk, fetch; open; round; import                32, 48; 56; 113; 2,256
  *     slot away from p = 1; at p = 1; with 64 orders        168; 200; 34,840
  *     slot_here, the same three                             360; 392; 35,032
- *     report, save, read                              25,464, 25,512, 33,528
+ *     report, save, read                              25,448, 25,512, 33,528
  *     add, remove, batch                              26,736, 26,176, 26,848
- *     to_pieces, save_pieces                                  66,392, 25,512
+ *     to_pieces, save_pieces                                  41,752, 49,480
  *     fresh, read_pieces, to_leaves                   59,408, 58,744, 67,032
  *     pair_slot, the same three                             296; 328; 34,968
  *     any other call for two drives                          32 more at most
@@ -50,7 +50,7 @@
  *     save, add, over                                 25,544, 25,752, 25,752
  *     read, round, report                             33,560, 33,608, 41,800
  *     remove, batch, fresh                            39,576, 39,656, 43,088
- *     read_pieces, save_pieces                                58,792, 50,072
+ *     read_pieces, save_pieces                                58,792, 49,992
  *
  * Of a C library the archive needs memcpy and memset, and nothing else. */
 #ifndef MANDROZSI_H

@@ -3,7 +3,7 @@
 
 ghost use Rattle.std.specs.Prelude.{◌≡◌, length};
 ghost use Rattle.calls.specs.declared.Unchanged.TheVariants.{Refused};
-ghost use Rattle.calls.specs.Records.{drive_at, moved_to};
+ghost use Rattle.calls.specs.Records.{drive_at, round_after, moved_to};
 ghost use Rattle.calls.specs.Refusals as refusals;
 ghost use Rattle.calls.specs.Refusals.{number_of};
 ghost use Rattle.calls.specs.Results as results;
@@ -125,7 +125,7 @@ impl Drive {
         ensures { result ≡ moved_to self position }
     {
         if position == 1 {
-            self.round = self.round.wrapping_add(1);
+            self.round = next_round(self.round);
         }
         self.position = position;
         self
@@ -313,4 +313,14 @@ impl Drive {
             spacing: spacing as u16,
         })
     }
+}
+
+// The number of the round after this one: 0 after the largest. Not by a sum that wraps, which would say nothing of `LAST_ROUND`.
+fn next_round(number: u64) -> u64
+    ensures { result ≡ round_after number }
+{
+    if number == Drive::LAST_ROUND {
+        return 0;
+    }
+    number + 1
 }

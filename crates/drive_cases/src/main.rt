@@ -17,7 +17,7 @@ use calls::Drive;
 use std::io;
 use telling::answers::{Told, tell};
 use telling::playing::{Player, play};
-use telling::reading::{number_at, read_text, record_of};
+use telling::reading::{number_at, read_text, record_of, text_room};
 use telling::stores::{put, within};
 use telling::{Record, Spaced};
 
@@ -95,25 +95,33 @@ impl Call {
     }
 }
 
-// The records of the two drives, a's first; how many entries of the board's store and how many numbers of the list's are lent; and the stores.
+// The records of the two drives, a's first; how many entries of the board's store and how many numbers of the list's are lent; and the stores. The
+// stores are lent by `main`, since each line takes the desk and gives it back.
 #[derive(Drop)]
-struct Desk {
+struct Desk<'a> {
     drives: [Drive; 2],
     entries: usize,
     numbers: usize,
-    board: [u16; 9],
-    list: [u64; 260],
-    sheet: [u8; 512],
+    board: &'a mut [u16],
+    list: &'a mut [u64],
+    sheet: &'a mut [u8],
 }
 
-impl Desk {
+impl Desk<'_> {
     // Makes a call of the first drive beside the second. Open and read give both drives their record.
-    fn call(mut self, rt: &impl Print, call: Call) -> io::Result<Desk> {
-        let m = within(self.entries, &self.board);
-        let n = within(self.numbers, &self.list);
-        let [own, other] = self.drives;
-        let board = &mut self.board[..m];
-        let list = &mut self.list[..n];
+    fn call(self, rt: &impl Print, call: Call) -> io::Result<Self> {
+        let Desk {
+            drives: [own, other],
+            entries,
+            numbers,
+            board: all_board,
+            list: all_list,
+            sheet,
+        } = self;
+        let m = within(entries, all_board);
+        let n = within(numbers, all_list);
+        let board = &mut all_board[..m];
+        let list = &mut all_list[..n];
         let after = match call {
             Call::Hold(drive) => silent(rt, drive)?,
             Call::Add { name, weight } => {
@@ -128,9 +136,9 @@ impl Desk {
                 after
             }
             Call::Report(name) => tell(rt, drives::report(own, other, board, name))?,
-            Call::Save => tell(rt, drives::save(own, other, board, &mut self.sheet))?,
+            Call::Save => tell(rt, drives::save(own, other, board, sheet))?,
             Call::Open(capacity) => tell(rt, orders::open(capacity, board, list))?,
-            Call::Read => tell(rt, orders::read(&self.sheet, board, list))?,
+            Call::Read => tell(rt, orders::read(sheet, board, list))?,
             Call::Fetch(ticket) => {
                 print!(rt; ": {}", Told(waiting::fetch(list, ticket)))?;
                 own
@@ -138,8 +146,14 @@ impl Desk {
             Call::Records => silent(rt, own)?,
         };
         let both = matches!(call, Call::Open(_) | Call::Read);
-        self.drives = [after, if both { after } else { other }];
-        Ok(self)
+        Ok(Desk {
+            drives: [after, if both { after } else { other }],
+            entries,
+            numbers,
+            board: all_board,
+            list: all_list,
+            sheet,
+        })
     }
 }
 
@@ -149,15 +163,15 @@ fn silent(rt: &impl Print, drive: Drive) -> io::Result<Drive> {
     Ok(drive)
 }
 
-impl Player for Desk {
+impl Player for Desk<'_> {
     // A line begins with the drive that acts, a where it isn't b.
-    fn play(mut self, rt: &impl Print, line: &[u8]) -> io::Result<Desk> {
+    fn play(mut self, rt: &impl Print, line: &[u8]) -> io::Result<Self> {
         match Act::parse(line) {
             None => {}
             Some(Act::Lend { entries }) => self.entries = entries,
             Some(Act::Trim { numbers }) => self.numbers = numbers,
-            Some(Act::Fix { entry, name }) => put(&mut self.board, entry, name),
-            Some(Act::Row) => print!(rt; ":{}", Spaced(&self.board))?,
+            Some(Act::Fix { entry, name }) => put(self.board, entry, name),
+            Some(Act::Row) => print!(rt; ":{}", Spaced(self.board))?,
             Some(Act::Call(call)) => {
                 let turned = line.first() == Some(&b'b');
                 if turned {
@@ -177,14 +191,16 @@ impl Player for Desk {
 
 // No board is lent, and the list has all its numbers.
 fn main(rt: HostRuntime) -> io::Result<()> {
-    let text = read_text(rt.alloc(), rt.reader())?;
+    let mut room = text_room();
+    let text = read_text(rt.reader(), &mut room)?;
+    let (mut board, mut list, mut sheet) = ([0; 9], [0; 260], [0; 512]);
     let desk = Desk {
         drives: [Drive::new(0, 0), Drive::new(0, 0)],
         entries: 0,
         numbers: 259,
-        board: [0; 9],
-        list: [0; 260],
-        sheet: [0; 512],
+        board: &mut board,
+        list: &mut list,
+        sheet: &mut sheet,
     };
-    play(&rt, &text, desk)
+    play(&rt, text, desk)
 }

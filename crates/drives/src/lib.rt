@@ -46,7 +46,7 @@ fn check_places(own: Drive, other: Drive) -> Result<(), Refusal>
 }
 
 // The refusals 1 to 3.
-#[tactic(auto, using(crate::proofs::PairChecks::sizes_fit), unfolding(crate::specs::Checks::pair_check))]
+#[tactic(auto, using(crate::proofs::PairChecks::own_sized), unfolding(crate::specs::Checks::pair_check))]
 pub fn check_pair(own: Drive, other: Drive, board: &[u16], short: bool) -> Result<(), Refusal>
     ensures { result ≡ checks.pair_check own other board.now short }
 {

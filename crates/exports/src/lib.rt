@@ -2,7 +2,7 @@
 // `sharing` those with the tables of over-allocated streams, in `by_hand` those of both that are lent structs, in `tree_walk` the tree walk, in `piece_sheets` the
 // sheets that list pieces, in `group_table` a group table.
 // `exports_c` exports each under its name: its body there is the call.
-#![tactic(auto)]
+#![tactic(auto, using(replies::proofs::Laws::replied, replies::proofs::Laws::converted))]
 
 ghost use Rattle.std.specs.Prelude.{◌≡◌, length};
 ghost use Rattle.calls.specs.Results as results;

@@ -5,7 +5,7 @@
 
 use groups::{Imported, Unimported};
 use std::io;
-use telling::reading::{Numbers, entry_of, read_text};
+use telling::reading::{Numbers, entry_of, read_text, text_room};
 use telling::stores::{part, with_entry, within};
 use telling::{Record, Spaced};
 
@@ -214,9 +214,10 @@ fn show_rows(rt: &impl Print, table: &[u16], mut stores: Stores) -> io::Result<(
 }
 
 fn main(rt: HostRuntime) -> io::Result<()> {
-    let text = read_text(rt.alloc(), rt.reader())?;
+    let mut room = text_room();
+    let text = read_text(rt.reader(), &mut room)?;
     let mut table = [0; NUMBERS];
-    for (entry, n) in table.iter_mut().zip(Numbers(&text)) {
+    for (entry, n) in table.iter_mut().zip(Numbers(text)) {
         *entry = entry_of(n);
     }
     let rest = show_cases(&rt, &table)?;

@@ -1,16 +1,17 @@
 -- The decimal digits of a number: its last digit after the digits of a tenth of it, and how many there are. Assumes nothing.
 use mathlib.Core.Path.{◌≡◌, refl, sym, ap, ◌∙◌}
 use mathlib.Core.List.{List, [], ◌∷◌, ◌++◌, append-nil, append_assoc}
-use Prim.Native.Nat.{ℕ, zero, suc, ◌+◌, ◌-◌, ◌/◌, ◌%◌, ◌^◌, ◌≤◌, ◌<◌}
+use Prim.Native.Nat.{ℕ, zero, suc, ◌+◌, ◌-◌, ◌*◌, ◌/◌, ◌%◌, ◌^◌, ◌≤◌, ◌<◌}
 use native.Mathlib.Omega.{arith}
-use native.Mathlib.Nat.{add-zero, zero-add, add-suc, suc-add}
+use native.Mathlib.Decide.{dec_lt}
+use native.Mathlib.Nat.{add-zero, zero-add, add-suc, suc-add, pow-succ'}
 use lib.Dec.{ltb}
 use lib.ListN.{length, get_or, take, drop, set, length-append, length-drop, drop_of_length-le}
 use lib.Seq.{sets, length-sets, sets-eq, take_all, drop-drop, take-suc}
 use borrow.Author.Tests.{lt-ltb, le-ltb}
 use Rattle.general.proofs.Laws.{by_bool, sets_append}
 use Rattle.std.specs.Fmt as text
-use Rattle.std.proofs.lemmas.Fmt.{decimal_by_steps, length-decimal-le}
+use Rattle.std.proofs.lemmas.Fmt.{decimal_by_steps}
 use Rattle.lines.specs.Printing.{decimal_in, decimal, field, fields, line}
 
 -- more steps than n change nothing
@@ -35,9 +36,34 @@ decimal_more (suc n) h = rw (le-ltb (suc n) 10 h, fuel n (suc n / 10) (suc n / 1
 pub decimal_written : (n : ℕ) → n < 2 ^ 64 → decimal n ≡ text.decimal n
 decimal_written n h = decimal_by_steps (λ m ds. decimal m ≡ ds) decimal_one (λ m ds k e. decimal_more m k ∙ ap (λ l. l ++ ((48 + m % 10) ∷ [])) e) n h
 
+-- how many digits a number has
+pub digits_more : (n : ℕ) → 10 ≤ n → length (decimal n) ≡ suc (length (decimal (n / 10)))
+digits_more n h = rw (decimal_more n h, length-append) (omega arith)
+
+pub digits_two : (n : ℕ) → 10 ≤ n → n < 100 → length (decimal n) ≡ 2
+digits_two n h k = digits_more n h ∙ ap suc (ap length (decimal_one (n / 10) (omega arith)))
+
+pub digits_three : (n : ℕ) → 100 ≤ n → n < 1000 → length (decimal n) ≡ 3
+digits_three n h k = digits_more n (omega arith) ∙ ap suc (digits_two (n / 10) (omega arith) (omega arith))
+
+pub digits_four : (n : ℕ) → 1000 ≤ n → n < 10000 → length (decimal n) ≡ 4
+digits_four n h k = digits_more n (omega arith) ∙ ap suc (digits_three (n / 10) (omega arith) (omega arith))
+
+pub digits_past_four : (n : ℕ) → 10000 ≤ n → length (decimal n) ≡ 4 + length (decimal (n / 10000))
+digits_past_four n h =
+    let e : n / 10 / 10 / 10 / 10 ≡ n / 10000 = omega arith in
+    omega (arith, digits_more n (omega arith), digits_more (n / 10) (omega arith), digits_more (n / 10 / 10) (omega arith), digits_more (n / 10 / 10 / 10) (omega arith), ap (λ m. length (decimal m)) e)
+
 -- a number below 10^(k+1) has at most k + 1 digits
-pub decimal_length : (k n : ℕ) → n < 10 ^ suc k → n < 2 ^ 64 → length (decimal n) ≤ suc k
-decimal_length k n h small = rw (decimal_written n small) (length-decimal-le (suc k) n (omega arith) h small)
+pub decimal_length : (k n : ℕ) → n < 10 ^ suc k → length (decimal n) ≤ suc k
+decimal_length zero n h = rw (decimal_one n h) (omega arith)
+decimal_length (suc k) n h =
+    elim (dec_lt n 10) [
+      | yes l ↦ rw (decimal_one n l) (omega arith)
+      | no l ↦ rw (decimal_more n (omega arith), length-append)
+          (let t : 10 ^ suc (suc k) ≡ 10 * 10 ^ suc k = pow-succ' 10 (suc k) in
+          omega (arith, decimal_length k (n / 10) (omega arith)))
+    ]
 
 -- one byte more at the end of what is stored
 pub sets_snoc : (l : List ℕ) (i : ℕ) (vs : List ℕ) (a : ℕ) → set (sets l i vs) (i + length vs) a ≡ sets l i (vs ++ (a ∷ []))
@@ -58,9 +84,9 @@ sets_part l v i k e h =
 -- ---- values and lines
 
 -- a value below 10^(k+1) has at most k + 1 digits, after a space
-pub field_length : (k n : ℕ) → n < 10 ^ suc k → n < 2 ^ 64 → length (field n) ≤ suc (suc k)
+pub field_length : (k n : ℕ) → n < 10 ^ suc k → length (field n) ≤ suc (suc k)
 unfolding field
-field_length k n h small = omega (arith, decimal_length k n h small)
+field_length k n h = omega (arith, decimal_length k n h)
 
 -- one value
 pub fields_one : (n : ℕ) → fields (n ∷ []) ≡ field n

@@ -4,21 +4,55 @@ ghost use Rattle.std.proofs.lemmas.List.Edits.{sets};
 ghost use Rattle.lines.specs.Printing.{decimal, field, fields, line};
 ghost use Rattle.lines.specs.Replies.{reply_bytes, Written};
 
-use itoa::Buffer;
+// How many digits a number has, by four at a step.
+fn digit_count(n: u64) -> usize
+    ensures { result ≡ length (decimal n) }
+{
+    if n < 10 {
+        return 1;
+    }
+    if n < 100 {
+        return 2;
+    }
+    if n < 1000 {
+        return 3;
+    }
+    if n < 10000 {
+        return 4;
+    }
+    4 + digit_count(n / 10000)
+}
 
-// A number's digits.
+// A number's digits. They are written where they are to stand: `itoa`'s own buffer would have to be filled and copied for each of a round's names.
+fn put_digits(out: &mut [u8], n: u64) -> usize
+    requires { length (decimal n) ≤ length out.old }
+    ensures { (result ≡ length (decimal n)) × (out.new ≡ sets out.old 0 (decimal n)) }
+{
+    if n < 100 && 10 <= n {
+        out[0] = b'0' + (n / 10) as u8;
+        out[1] = b'0' + (n % 10) as u8;
+        return 2;
+    }
+    let count = digit_count(n);
+    itoa::write_digits(n, out, count);
+    count
+}
+
+// The same. One digit, as of an idle leaf, is written without a call.
+#[inline(always)]
 fn put_number(out: &mut [u8], n: u64) -> usize
     requires { length (decimal n) ≤ length out.old }
     ensures { (result ≡ length (decimal n)) × (out.new ≡ sets out.old 0 (decimal n)) }
 {
-    let mut buffer = Buffer::new();
-    let digits = buffer.format(n).as_bytes();
-    let count = digits.len();
-    out[..count].copy_from_slice(digits);
-    count
+    if n < 10 {
+        out[0] = b'0' + n as u8;
+        return 1;
+    }
+    put_digits(out, n)
 }
 
 // A space and a value.
+#[inline(always)]
 fn put_field(out: &mut [u8], n: u64) -> usize
     requires { length (field n) ≤ length out.old }
     ensures { (result ≡ length (field n)) × (out.new ≡ sets out.old 0 (field n)) }

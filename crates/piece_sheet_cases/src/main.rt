@@ -8,7 +8,7 @@ use calls::{Checked, Drive, Refusal, Returned};
 use std::io;
 use telling::Row;
 use telling::answers::Told;
-use telling::reading::{Numbers, entry_of, read_text};
+use telling::reading::{Numbers, entry_of, read_text, text_room};
 use telling::stores::{mark, number_in, part, put_number, within};
 
 // Fifty blocks: one more than the longest sheet has.
@@ -167,8 +167,9 @@ fn run_turn(rt: &impl Print, row: [u64; 4], sheet: &mut [u8], other: &mut [u8]) 
 
 // The rows of each kind: how many there are, and then each.
 fn main(rt: HostRuntime) -> io::Result<()> {
-    let text = read_text(rt.alloc(), rt.reader())?;
-    let mut numbers = Numbers(&text);
+    let mut room = text_room();
+    let text = read_text(rt.reader(), &mut room)?;
+    let mut numbers = Numbers(text);
     let mut sheet = [0; BYTES];
     let mut other = [0; BYTES];
     println!(rt;

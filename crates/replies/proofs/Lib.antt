@@ -1,2 +1,2 @@
--- The law that the exported functions cite stands in Laws.
+-- The laws by which the exported functions keep their promises stand in Laws.
 pub mod Laws

@@ -8,7 +8,7 @@ use calls::{Drive, Refusal, Returned};
 use std::io;
 use telling::Row;
 use telling::answers::Told;
-use telling::reading::{Numbers, entry_of, read_text};
+use telling::reading::{Numbers, entry_of, read_text, text_room};
 use telling::stores::{mark, number_in, part, put_number, within};
 
 // The leaves of the boards that are saved.
@@ -265,9 +265,10 @@ fn run_rows(rt: &impl Print, text: &[u8], sheet: &mut [u8]) -> io::Result<()> {
 }
 
 fn main(rt: HostRuntime) -> io::Result<()> {
-    let text = read_text(rt.alloc(), rt.reader())?;
+    let mut room = text_room();
+    let text = read_text(rt.reader(), &mut room)?;
     let mut sheet = [0; 9216];
-    run_rows(&rt, &text, &mut sheet)?;
+    run_rows(&rt, text, &mut sheet)?;
     run_changes(&rt, &mut sheet)?;
     run_lengths(&rt, &mut sheet)
 }

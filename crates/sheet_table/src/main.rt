@@ -4,7 +4,7 @@
 
 use calls::{Drive, Returned};
 use std::io;
-use telling::reading::read_text;
+use telling::reading::{read_text, text_room};
 
 // The pieces of a list, three numbers to a piece: its stream, its start and how many leaves it has, of which the list has the exponent.
 fn show_pieces(rt: &impl Print, list: &[u16]) -> io::Result<()> {
@@ -31,9 +31,10 @@ fn show_board(rt: &impl Print, drive: Drive, board: &[u16; 4095]) -> io::Result<
 }
 
 fn main(rt: HostRuntime) -> io::Result<()> {
-    let sheet = read_text(rt.alloc(), rt.reader())?;
+    let mut room = text_room();
+    let sheet = read_text(rt.reader(), &mut room)?;
     let mut board = [0; 4095];
-    let Returned { drive, answer } = sheets::read_pieces(&sheet, &mut board);
+    let Returned { drive, answer } = sheets::read_pieces(sheet, &mut board);
     match answer {
         Ok(()) => show_board(&rt, drive, &board),
         Err(why) => println!(rt; "refused {}", why.number()),

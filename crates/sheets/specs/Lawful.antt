@@ -1,13 +1,13 @@
 -- What holds of each form of sheet, as the code that is common to both relies on it: what its blocks hold has 253 numbers, and save asks for a slot,
 -- then a position that the form is written at, then a good board, then room. Assumes nothing.
-use Rattle.std.proofs.Common.{◌≡◌, refl, ap, ◌∙◌, List, [], ◌∷◌, ℕ, zero, suc, ◌+◌, ◌*◌, length}
+use Rattle.std.proofs.Common.{◌≡◌, refl, ap, ◌∙◌, Bool, true, List, [], ◌∷◌, ℕ, zero, suc, ◌+◌, ◌*◌, length}
 use Rattle.calls.specs.Refusals.{and_then, asked_output, slot_may, change_may, slot_check, good_check}
 use Rattle.calls.specs.declared.Drive.{Drive}
 use Rattle.calls.specs.declared.Refusal.TheVariants.{Capacity, Short, Position, Midround, Damaged, Output}
 use Rattle.calls.specs.Types.{Check}
 use Rattle.calls.proofs.Laws.{first_next}
 use Rattle.sheets.specs.Blocks.{values_from}
-use Rattle.sheets.specs.Sheet.{blocks, leaf_or_zero}
+use Rattle.sheets.specs.Sheet.{blocks, leaf_or_zero, laid}
 use Rattle.sheets.specs.Forms.{room_check, saving_check, size_of}
 use Rattle.sheets.specs.Results.{leaf_form, piece_form}
 use Rattle.sheets.specs.Conversions.{at_start, anywhere}
@@ -35,6 +35,16 @@ leaves_full p L b = values_length (leaf_or_zero (length L) L) (253 * b) 253
 
 pub entries_full : (p : ℕ) (L : List ℕ) (b : ℕ) → length (entries_held p L b) ≡ 253
 entries_full p L b = ap suc (values_length (leaf_or_zero (length L) L) (252 * b) 252)
+
+-- what is seen of the layout before the leaves are read: of a sheet of leaves all of it, of one of pieces nothing; a layout that is kept shows no fault
+pub leaves_show : (c : ℕ) (S : List ℕ) → leaf_form.laid c S ≡ true → laid c S ≡ true
+leaves_show c S e = e
+
+abbrev pub entries_seen : ℕ → List ℕ → Bool
+entries_seen c S = true
+
+pub entries_show : (c : ℕ) (S : List ℕ) → piece_form.laid c S ≡ true → entries_seen c S ≡ true
+entries_show c S e = refl
 
 -- what save asks before the output
 abbrev pub standing : (ℕ → Check) → Drive → List ℕ → Check

@@ -4,7 +4,7 @@ ghost use Rattle.general.specs.Tests.{same};
 ghost use Rattle.sheets.specs.Entries as sheets;
 ghost use Rattle.sheets.specs.Results.{piece_form};
 ghost use Rattle.sheets.specs.Conversions.{anywhere};
-ghost use Rattle.sheets.specs.Lawful.{entry_number, entries_held, entries_full, entries_ask};
+ghost use Rattle.sheets.specs.Lawful.{entry_number, entries_held, entries_full, entries_seen, entries_show, entries_ask};
 
 use crate::blocks::{self, BlockForm};
 use crate::forms::SheetForm;
@@ -68,6 +68,15 @@ impl SheetForm for PieceForm {
     fn put(board: &[u16], c: usize, p: usize, output: &mut [u8]) -> Result<usize, Refusal> {
         crate::put_pieces(board, c, p, output)
     }
+
+    ghost seen = { entries_seen };
+
+    // The layout shows by the leaves alone.
+    fn may_be_laid(_sheet: &[u8], _c: usize) -> bool {
+        true
+    }
+
+    ghost shows = { entries_show };
 
     fn read(sheet: &[u8], leaves: &mut [u16]) -> bool {
         spell(sheet, leaves);

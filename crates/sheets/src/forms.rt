@@ -1,6 +1,6 @@
 // What the forms of sheet share. A form says at which positions it is written, and how its bytes are made, tested and read; a sheet of any form is
 // saved, read and converted here.
-ghost use Rattle.std.specs.Prelude.{◌≡◌, ℕ, ◌≤◌, ◌<◌, true, List, length, replicate};
+ghost use Rattle.std.specs.Prelude.{◌≡◌, ℕ, ◌≤◌, ◌<◌, Bool, true, List, length, replicate};
 ghost use Rattle.calls.specs.declared.Drive.{Drive};
 ghost use Rattle.calls.specs.Types.{Check};
 ghost use Rattle.calls.specs.Refusals.{and_then};
@@ -33,9 +33,19 @@ pub trait SheetForm {
         requires { (c ≤ length board.now) × (c ≤ 4095) × (p < 65536) }
         ensures { Puts form c p board.now output.old result output.new };
 
+    // What is seen of a sheet's layout before its leaves are read.
+    ghost seen: { ℕ → List ℕ → Bool };
+
+    // Whether the bytes may keep the layout of a sheet of c leaves. Those that do not are refused before there is room for leaves, which takes longer.
+    fn may_be_laid(sheet: &[u8], c: usize) -> bool
+        requires { (0 < c) × (c ≤ 4095) }
+        ensures { result ≡ seen c sheet.now };
+
+    ghost shows: { (c : ℕ) (S : List ℕ) → form.laid c S ≡ true → seen c S ≡ true };
+
     // Whether the bytes keep the layout of a sheet of so many leaves as there are. Where they do, the leaves, which are idle, become those of the sheet.
     fn read(sheet: &[u8], leaves: &mut [u16]) -> bool
-        requires { (0 < length leaves.old) × (length leaves.old ≤ 4095) × (512 ≤ length sheet.now) × (leaves.old ≡ replicate (length leaves.old) 0) }
+        requires { (0 < length leaves.old) × (length leaves.old ≤ 4095) × (512 ≤ length sheet.now) × (leaves.old ≡ replicate (length leaves.old) 0) × (seen (length leaves.old) sheet.now ≡ true) }
         ensures { (result ≡ form.laid (length leaves.old) sheet.now) × (result ≡ true → leaves.new ≡ form.leaves (length leaves.old) sheet.now) };
 
     ghost asks: { (d : Drive) (B : List ℕ) (n : ℕ) → saving_check form d B n ≡ and_then (standing at d B) (room_check n (form.size d.capacity B)) };
@@ -76,10 +86,20 @@ pub fn save<F: SheetForm>(drive: Drive, board: &[u16], output: &mut [u8]) -> Sav
     }
 }
 
-// The refusals 12 and 5, of a sheet's layout and of the leaves that it holds. They are read to entries that are not lent and tested there; where they
-// pass, the board that is lent gets them.
+// The refusals 12 and 5, of a sheet's layout and of the leaves that it holds. Where they pass, the board that is lent gets the leaves.
 fn hold<F: SheetForm>(sheet: &[u8], c: usize, board: &mut [u16]) -> Result<(), Refusal>
     requires { (0 < c) × (c ≤ 4095) × (512 ≤ length sheet.now) × (c ≤ length board.old) }
+    ensures { Holds F.form c sheet.now board.old result board.new }
+{
+    if !F::may_be_laid(sheet, c) {
+        return Err(Refusal::Block);
+    }
+    hold_read::<F>(sheet, c, board)
+}
+
+// The same of a sheet of whose layout no fault is seen. Its leaves are read to entries that are not lent and tested there.
+fn hold_read<F: SheetForm>(sheet: &[u8], c: usize, board: &mut [u16]) -> Result<(), Refusal>
+    requires { (0 < c) × (c ≤ 4095) × (512 ≤ length sheet.now) × (c ≤ length board.old) × (F.seen c sheet.now ≡ true) }
     ensures { Holds F.form c sheet.now board.old result board.new }
 {
     let mut scratch: [u16; Drive::LARGEST] = names::zeros();

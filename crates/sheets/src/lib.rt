@@ -86,7 +86,9 @@ pub fn piece_bytes(board: &[u16], c: usize) -> usize
     blocks::sheet_bytes::<PieceForm>(n)
 }
 
-// The refusal 11, and where there is none the sheet of a board's pieces at p, at the start of the output.
+// The refusal 11, and where there is none the sheet of a board's pieces at p, at the start of the output. It has a frame of its own, lest the list of the pieces
+// stand beside the board of a conversion while that is tested.
+#[inline(never)]
 pub fn put_pieces(board: &[u16], c: usize, p: usize, output: &mut [u8]) -> Result<usize, Refusal>
     requires { (c ≤ length board.now) × (c ≤ 4095) × (p < 65536) }
     ensures { Puts piece_form c p board.now output.old result output.new }

@@ -1,23 +1,46 @@
 // The text of an input, and its numbers. A number is a run of digits, whatever stands around it, modulo 2^64.
-ghost use Rattle.std.specs.Prelude.{◌≡◌, IfOk, IfSome, ◌%◌, take, length};
+ghost use Rattle.std.specs.Prelude.{◌≡◌, IfOk, IfSome, ◌≤◌, ◌%◌, take, length};
 ghost use Rattle.std.specs.Iterator.{at_most};
 
 use calls::Drive;
-use std::alloc::Global;
 use std::io;
 use std::io::Read;
 
-/// How many bytes of an input are read.
-pub const MOST: u64 = 65536;
+/// How many bytes of an input the programs read.
+pub const MOST: usize = 65536;
 
-/// The bytes of an input, or its first 65,536. A read that a signal interrupted is made again (std's `read_to_end`). `Err` comes where another read fails or
-/// memory runs out, with std's error; the bytes read before are lost.
-pub fn read_text<R: Read + Drop>(alloc: Global, input: R) -> io::Result<Vec<u8>>
-    ensures { IfOk result (λ text. IfSome (R.remaining input) (λ bytes. text.items ≡ take 65536 bytes)) }
+/// Room for the text of an input. It is lent, so that no program that reads one needs the heap.
+pub fn text_room() -> [u8; MOST]
+    ensures { 65536 ≡ length result }
 {
-    let mut text = Vec::new(alloc);
-    input.take(MOST).read_to_end(&mut text)?;
-    Ok(text)
+    [0; MOST]
+}
+
+// Reads an input to the start of what is lent, until that is full or the input ends, and says how many bytes it put there. `Err` comes just where a read
+// fails, with std's error.
+fn fill<R: Read>(input: &mut R, text: &mut [u8]) -> io::Result<usize>
+    ensures fits { IfOk result (λ n. n ≤ length text.new) }
+    ensures bytes { IfOk result (λ n. IfSome (R.remaining input.old) (λ bytes. take n text.new ≡ take (length text.old) bytes)) }
+{
+    let mut done: usize = 0;
+    while done < text.len() {
+        let n = input.read(&mut text[done..])?;
+        if n == 0 {
+            return Ok(done);
+        }
+        done += n;
+    }
+    Ok(done)
+}
+
+/// The bytes of an input, or as many of its first ones as what is lent has room for: they are put there. `Err` comes just where a read fails, one that a signal
+/// interrupted too, with std's error; what was read before stands at the start of what is lent.
+pub fn read_text<R: Read + Drop>(mut input: R, room: &mut [u8]) -> io::Result<&[u8]>
+    ensures fits { IfOk result (λ text. length text.now ≤ length room.old) }
+    ensures bytes { IfOk result (λ text. IfSome (R.remaining input) (λ bytes. text.now ≡ take (length room.old) bytes)) }
+{
+    let n = fill(&mut input, room)?;
+    Ok(&room[..n])
 }
 
 /// The numbers of a text, from the first one on.
@@ -99,10 +122,11 @@ mod tests {
 
     #[test]
     fn reads_a_text(rt: HostRuntime) -> Result<(), Fail> {
-        let text = read_text(rt.alloc(), &b"12, and 70000\n"[..])?;
+        let mut room = text_room();
+        let text = read_text(&b"12, and 70000\n"[..], &mut room)?;
         assert_eq!(rt; text.len(), 14);
-        assert_eq!(rt; Numbers(&text).row(), [12, 70000, 0]);
-        assert_eq!(rt; number_at(&text, 1), 4464);
+        assert_eq!(rt; Numbers(text).row(), [12, 70000, 0]);
+        assert_eq!(rt; number_at(text, 1), 4464);
         Ok(())
     }
 }

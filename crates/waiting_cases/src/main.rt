@@ -21,7 +21,7 @@ use calls::Drive;
 use std::io;
 use telling::answers::{Told, tell};
 use telling::playing::{Player, play};
-use telling::reading::{long_at, number_at, read_text, record_of};
+use telling::reading::{long_at, number_at, read_text, record_of, text_room};
 use telling::stores::{part, put, within};
 use telling::{Record, Spaced};
 use waiting::Order;
@@ -131,26 +131,43 @@ impl Call {
     }
 }
 
-// The record, how many entries of the board's store and how many numbers of the list's are lent, and the stores.
+// The record, how many entries of the board's store and how many numbers of the list's are lent, and the stores. The stores are
+// lent by `main`, since each line takes the desk and gives it back.
 #[derive(Drop)]
-struct Desk {
+struct Desk<'a> {
     drive: Drive,
     entries: usize,
     numbers: usize,
-    board: [u16; 4097],
-    list: [u64; 300],
-    sheet: [u8; 2048],
+    board: &'a mut [u16],
+    list: &'a mut [u64],
+    sheet: &'a mut [u8],
 }
 
-impl Desk {
+// Writes a round to a store, and says the store's first entries. Its frame is its own, since a function pays at its entry for each of its arrays.
+#[inline(never)]
+fn show_round(rt: &impl Print, drive: Drive, board: &[u16], shown: usize) -> io::Result<Drive> {
+    let mut output = [0; 4097];
+    let after = tell(rt, drive.round(board, &mut output))?;
+    print!(rt; "{}", Spaced(part(&output, 0, shown)))?;
+    Ok(after)
+}
+
+impl Desk<'_> {
     // Makes a call, and says the record after it.
-    fn call(mut self, rt: &impl Print, call: Call) -> io::Result<Desk> {
-        let m = within(self.entries, &self.board);
-        let n = within(self.numbers, &self.list);
-        let drive = self.drive;
-        let board = &mut self.board[..m];
-        let list = &mut self.list[..n];
-        self.drive = match call {
+    fn call(self, rt: &impl Print, call: Call) -> io::Result<Self> {
+        let Desk {
+            drive,
+            entries,
+            numbers,
+            board: all_board,
+            list: all_list,
+            sheet,
+        } = self;
+        let m = within(entries, all_board);
+        let n = within(numbers, all_list);
+        let board = &mut all_board[..m];
+        let list = &mut all_list[..n];
+        let drive = match call {
             Call::Open(capacity) => tell(rt, orders::open(capacity, board, list))?,
             Call::Add { name, weight } => tell(rt, orders::add(drive, board, list, name, weight))?,
             Call::Remove(name) => tell(rt, orders::remove(drive, board, list, name))?,
@@ -160,24 +177,24 @@ impl Desk {
                 print!(rt; ": {}", Told(waiting::fetch(list, ticket)))?;
                 drive
             }
-            Call::Round { shown } => {
-                let mut output = [0; 4097];
-                let after = tell(rt, drive.round(board, &mut output))?;
-                print!(rt; "{}", Spaced(part(&output, 0, shown)))?;
-                after
-            }
-            Call::Save => tell(rt, sheets::save(drive, board, &mut self.sheet))?,
-            Call::Read { bytes } => {
-                tell(rt, orders::read(part(&self.sheet, 0, bytes), board, list))?
-            }
+            Call::Round { shown } => show_round(rt, drive, board, shown)?,
+            Call::Save => tell(rt, sheets::save(drive, board, sheet))?,
+            Call::Read { bytes } => { tell(rt, orders::read(part(sheet, 0, bytes), board, list))? }
         };
-        print!(rt; " {}", Record(self.drive))?;
-        Ok(self)
+        print!(rt; " {}", Record(drive))?;
+        Ok(Desk {
+            drive,
+            entries,
+            numbers,
+            board: all_board,
+            list: all_list,
+            sheet,
+        })
     }
 }
 
-impl Player for Desk {
-    fn play(mut self, rt: &impl Print, line: &[u8]) -> io::Result<Desk> {
+impl Player for Desk<'_> {
+    fn play(mut self, rt: &impl Print, line: &[u8]) -> io::Result<Self> {
         match Act::parse(line) {
             None => {}
             Some(Act::Lend(lent)) => {
@@ -186,14 +203,14 @@ impl Player for Desk {
                 self.entries = lent.entries;
                 self.numbers = lent.numbers;
             }
-            Some(Act::Fix { entry, name }) => put(&mut self.board, entry, name),
-            Some(Act::Tag { number, value }) => put(&mut self.list, number, value),
-            Some(Act::Mar { byte, value }) => put(&mut self.sheet, byte, value),
+            Some(Act::Fix { entry, name }) => put(self.board, entry, name),
+            Some(Act::Tag { number, value }) => put(self.list, number, value),
+            Some(Act::Mar { byte, value }) => put(self.sheet, byte, value),
             Some(Act::Row { from, shown }) => {
-                print!(rt; ":{}", Spaced(part(&self.board, from, shown)))?;
+                print!(rt; ":{}", Spaced(part(self.board, from, shown)))?;
             }
             Some(Act::List { from, shown }) => {
-                print!(rt; ":{}", Spaced(part(&self.list, from, shown)))?;
+                print!(rt; ":{}", Spaced(part(self.list, from, shown)))?;
             }
             Some(Act::Hold(drive)) => self.drive = drive,
             Some(Act::Call(call)) => return self.call(rt, call),
@@ -203,14 +220,16 @@ impl Player for Desk {
 }
 
 fn main(rt: HostRuntime) -> io::Result<()> {
-    let text = read_text(rt.alloc(), rt.reader())?;
+    let mut room = text_room();
+    let text = read_text(rt.reader(), &mut room)?;
+    let (mut board, mut list, mut sheet) = ([0; 4097], [0; 300], [0; 2048]);
     let desk = Desk {
         drive: Drive::new(0, 0),
         entries: 0,
         numbers: 0,
-        board: [0; 4097],
-        list: [0; 300],
-        sheet: [0; 2048],
+        board: &mut board,
+        list: &mut list,
+        sheet: &mut sheet,
     };
-    play(&rt, &text, desk)
+    play(&rt, text, desk)
 }

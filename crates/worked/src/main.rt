@@ -16,7 +16,7 @@ use calls::Drive;
 use std::io;
 use telling::answers::tell;
 use telling::playing::{Player, play};
-use telling::reading::{number_at, read_text, record_of};
+use telling::reading::{number_at, read_text, record_of, text_room};
 use telling::stores::{part, put, within};
 use telling::{Record, Spaced};
 
@@ -90,18 +90,35 @@ impl Call {
     }
 }
 
-// The record, how many entries of the store are lent, and the store.
+// The record, how many entries of the store are lent, and the store. The store is lent by `main`, since each line takes the desk and gives it back.
 #[derive(Drop)]
-struct Desk {
+struct Desk<'a> {
     drive: Drive,
     lent: usize,
-    store: [u16; 4097],
+    store: &'a mut [u16],
 }
 
-impl Desk {
+// Writes a round to a store, of which so many entries are lent; says the record after it and the store's first entries. Its frame is its own, since a function
+// pays at its entry for each of its arrays.
+#[inline(never)]
+fn show_round(
+    rt: &impl Print,
+    drive: Drive,
+    board: &[u16],
+    room: usize,
+    shown: usize,
+) -> io::Result<Drive> {
+    let mut output = [99; 4097];
+    let lent = within(room, &output);
+    let after = tell(rt, drive.round(board, &mut output[..lent]))?;
+    print!(rt; " {}{}", Record(after), Spaced(part(&output, 0, shown)))?;
+    Ok(after)
+}
+
+impl Desk<'_> {
     // Makes a call, and says the record after it.
-    fn call(mut self, rt: &impl Print, call: Call) -> io::Result<Desk> {
-        let n = within(self.lent, &self.store);
+    fn call(mut self, rt: &impl Print, call: Call) -> io::Result<Self> {
+        let n = within(self.lent, self.store);
         let drive = self.drive;
         let board = &mut self.store[..n];
         self.drive = match call {
@@ -112,14 +129,7 @@ impl Desk {
             Call::Report(name) => tell(rt, drive.report(board, name))?,
             Call::Lay => tell(rt, drive.fresh(board))?,
             Call::Round { room, shown } => {
-                let mut output = [99; 4097];
-                let lent = within(room, &output);
-                self.drive = tell(rt, drive.round(board, &mut output[..lent]))?;
-                print!(rt;
-                    " {}{}",
-                    Record(self.drive),
-                    Spaced(part(&output, 0, shown))
-                )?;
+                self.drive = show_round(rt, drive, board, room, shown)?;
                 return Ok(self);
             }
         };
@@ -128,17 +138,17 @@ impl Desk {
     }
 }
 
-impl Player for Desk {
-    fn play(mut self, rt: &impl Print, line: &[u8]) -> io::Result<Desk> {
+impl Player for Desk<'_> {
+    fn play(mut self, rt: &impl Print, line: &[u8]) -> io::Result<Self> {
         match Act::parse(line) {
             None => {}
             Some(Act::Lend { entries, name }) => {
                 self.store.fill(name);
                 self.lent = entries;
             }
-            Some(Act::Put { entry, name }) => put(&mut self.store, entry, name),
+            Some(Act::Put { entry, name }) => put(self.store, entry, name),
             Some(Act::Leaves { from, shown }) => {
-                print!(rt; ":{}", Spaced(part(&self.store, from, shown)))?;
+                print!(rt; ":{}", Spaced(part(self.store, from, shown)))?;
             }
             Some(Act::Hold(drive)) => self.drive = drive,
             Some(Act::Call(call)) => return self.call(rt, call),
@@ -148,11 +158,13 @@ impl Player for Desk {
 }
 
 fn main(rt: HostRuntime) -> io::Result<()> {
-    let text = read_text(rt.alloc(), rt.reader())?;
+    let mut room = text_room();
+    let text = read_text(rt.reader(), &mut room)?;
+    let mut store = [0; 4097];
     let desk = Desk {
         drive: Drive::new(0, 0),
         lent: 0,
-        store: [0; 4097],
+        store: &mut store,
     };
-    play(&rt, &text, desk)
+    play(&rt, text, desk)
 }
